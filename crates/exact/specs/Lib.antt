@@ -1,0 +1,5 @@
+-- The exact mathematics: first what a reader must believe, then proofs, from whole numbers up to the uniqueness of the normal form.
+pub mod Meaning
+pub mod Whole
+pub mod Algebra
+pub mod Matrices

@@ -1,0 +1,6 @@
+-- Matrices over a power of root two: when two are the same, words, triples, and least exponents.
+pub mod Laws
+pub mod Same
+pub mod Star
+pub mod Test
+pub mod Words

@@ -1,0 +1,7 @@
+-- What a reader must believe, and nothing else: definitions written from document 01 and the papers that it names.
+pub mod Number
+pub mod Matrix
+pub mod Word
+pub mod Triple
+pub mod Normal
+pub mod Limits
