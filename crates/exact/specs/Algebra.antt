@@ -6,3 +6,4 @@ pub mod Omega
 pub mod RootTwo
 pub mod OmegaPower
 pub mod Norm
+pub mod Over

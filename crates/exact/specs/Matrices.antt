@@ -4,3 +4,5 @@ pub mod Same
 pub mod Star
 pub mod Test
 pub mod Words
+pub mod Triples
+pub mod Least

@@ -66,6 +66,30 @@ mul-isometry {x} {y} h k =
         solveM omegas omegas-laws (entriesOf x (a ∷ b ∷ []))
         (scaleM exprs (var 4) (scaleM exprs (var 4) (scaleM exprs (var 5) (scaleM exprs (var 5) M₀)))) (scaleM exprs (var 4 ⊗ var 5) (scaleM exprs (var 4 ⊗ var 5) M₀)) (tt, tt, tt, tt)
 
+pub Same-isometry : {x y : Matrix} → Same x y → Isometry x → Isometry y
+Same-isometry {x} {y} h i =
+    record {
+      inverted =
+          lifted-cancel (x .e) (mulM omegas (starM ints (y .m)) (y .m)) (lifted (y .e) (lifted (y .e) (unitM omegas)))
+          (lifted-cancel (x .e) (lifted (x .e) (mulM omegas (starM ints (y .m)) (y .m))) (lifted (x .e) (lifted (y .e) (lifted (y .e) (unitM omegas))))
+          (sym (squared (x .e) (y .m))
+          ∙ ap (λ m. mulM omegas (starM ints m) m) (sym (h .same))
+          ∙ squared (y .e) (x .m)
+          ∙ ap (λ m. lifted (y .e) (lifted (y .e) m)) (i .inverted)
+          ∙ regroup (root2^ (y .e)) (root2^ (x .e)) (unitM omegas)));
+    }
+  where
+    squared : (n : ℕ) (m : Mat Ω) → mulM omegas (starM ints (lifted n m)) (lifted n m) ≡ lifted n (lifted n (mulM omegas (starM ints m) m))
+    squared n m =
+        ap (λ s. mulM omegas s (lifted n m)) (star-lifted n m)
+        ∙ scale-both omegas omegas-laws (root2^ n) (root2^ n) (starM ints m) m
+        ∙ scale-scale omegas omegas-laws (root2^ n) (root2^ n) (mulM omegas (starM ints m) m)
+
+    regroup : (a b : Ω) (m : Mat Ω) → scaleM omegas a (scaleM omegas a (scaleM omegas b (scaleM omegas b m))) ≡ scaleM omegas b (scaleM omegas b (scaleM omegas a (scaleM omegas a m)))
+    regroup a b m =
+        solveM omegas omegas-laws (entriesOf m (a ∷ b ∷ []))
+        (scaleM exprs (var 4) (scaleM exprs (var 4) (scaleM exprs (var 5) (scaleM exprs (var 5) M₀)))) (scaleM exprs (var 5) (scaleM exprs (var 5) (scaleM exprs (var 4) (scaleM exprs (var 4) M₀)))) (tt, tt, tt, tt)
+
 -- ---- a common left factor is struck
 pub strike : {x y z : Matrix} → Isometry x → Same (x · y) (x · z) → Same y z
 strike {x} {y} {z} i h =
