@@ -3,3 +3,4 @@ pub mod Meaning
 pub mod Whole
 pub mod Algebra
 pub mod Matrices
+pub mod Rotation

@@ -1,7 +1,7 @@
 -- A ring with an eighth root of unity put to it, omega⁴ = -1, is a commutative ring; conjugation respects its sums and products; root two squares
 -- to 2. Over the whole numbers this is ℤ[omega], where root two can be cancelled and its powers are their own conjugates.
 -- The operations also act on the solver's expressions, so that each law is one computed test. Assumes nothing.
-use mathlib.Core.Path.{_≡_, refl, sym, _∙_, ap}
+use mathlib.Core.Path.{_≡_, refl, sym, _∙_, ap, ap₂}
 use mathlib.Core.List.{List, [], _∷_}
 use Prim.Native.Nat.{ℕ, zero, suc, _+_}
 use lib.Dec.{T}
@@ -9,7 +9,7 @@ use lib.IntN.{ℤ, pos, negsuc}
 use Rattle.exact.specs.Meaning.Number.{Ops, Quad, ints, constQ, addQ, negQ, mulQ, conjQ, omega′, root2, quads, Ω, omegas, root2^}
 use Rattle.exact.specs.Whole.Parity.{halved}
 use Rattle.exact.specs.Algebra.Ring.{Laws, ints-laws}
-use Rattle.exact.specs.Algebra.Solver.{Expr, var, con, _⊕_, _⊗_, exprs, eval, at, same, solve}
+use Rattle.exact.specs.Algebra.Solver.{Expr, var, con, _⊕_, _⊗_, ⊖, exprs, eval, at, same, solve}
 use Rattle.exact.specs.Algebra.Power.{power-add, power-cancel}
 
 pub quad-path : {A : Type 0} {x y : Quad A} → x .a ≡ y .a → x .b ≡ y .b → x .c ≡ y .c → x .d ≡ y .d → x ≡ y
@@ -68,6 +68,9 @@ module _ (O : Ops) (L : Laws O) where
   pub conj-mul : (x y : Q) → conjQ O (mulQ O x y) ≡ mulQ O (conjQ O x) (conjQ O y)
   conj-mul x y = solveQ O L (parts x (parts y [])) (conjQ exprs (mulQ exprs X₀ X₁)) (mulQ exprs (conjQ exprs X₀) (conjQ exprs X₁)) (tt, tt, tt, tt)
 
+  pub conj-neg : (x : Q) → conjQ O (negQ O x) ≡ negQ O (conjQ O x)
+  conj-neg x = solveQ O L (parts x []) (conjQ exprs (negQ exprs X₀)) (negQ exprs (conjQ exprs X₀)) (tt, tt, tt, tt)
+
   pub conj-conj : (x : Q) → conjQ O (conjQ O x) ≡ x
   conj-conj x = solveQ O L (parts x []) (conjQ exprs (conjQ exprs X₀)) X₀ (tt, tt, tt, tt)
 
@@ -84,6 +87,23 @@ module _ (O : Ops) (L : Laws O) where
 -- ---- ℤ[omega]
 pub omegas-laws : Laws omegas
 omegas-laws = quads-laws ints ints-laws
+
+-- ---- conjugation goes through every polynomial
+abbrev pub conjs : List Ω → List Ω
+conjs [] = []
+conjs (x ∷ xs) = conjQ ints x ∷ conjs xs
+
+conj-at : (xs : List Ω) (i : ℕ) → conjQ ints (at omegas xs i) ≡ at omegas (conjs xs) i
+conj-at [] i = conj-const ints ints-laws (pos 0)
+conj-at (x ∷ xs) zero = refl
+conj-at (x ∷ xs) (suc i) = conj-at xs i
+
+pub conj-eval : (xs : List Ω) (e : Expr) → conjQ ints (eval omegas (at omegas xs) e) ≡ eval omegas (at omegas (conjs xs)) e
+conj-eval xs (var i) = conj-at xs i
+conj-eval xs (con n) = conj-const ints ints-laws n
+conj-eval xs (e ⊕ f) = conj-add ints ints-laws (eval omegas (at omegas xs) e) (eval omegas (at omegas xs) f) ∙ ap₂ (addQ ints) (conj-eval xs e) (conj-eval xs f)
+conj-eval xs (e ⊗ f) = conj-mul ints ints-laws (eval omegas (at omegas xs) e) (eval omegas (at omegas xs) f) ∙ ap₂ (mulQ ints) (conj-eval xs e) (conj-eval xs f)
+conj-eval xs (⊖ e) = conj-neg ints ints-laws (eval omegas (at omegas xs) e) ∙ ap (negQ ints) (conj-eval xs e)
 
 -- ---- root two
 -- it is no zero divisor

@@ -97,6 +97,9 @@ module _ (O : Ops) (L : Laws O) where
   pub ofRoot-times : (x : Root (O .Car)) → ofRoot O (timesR O x) ≡ mulQ O (root2 O) (ofRoot O x)
   ofRoot-times x = solveQ O L (two x []) (ofRoot exprs (timesR exprs R₀)) (mulQ exprs (root2 exprs) (ofRoot exprs R₀)) (tt, tt, tt, tt)
 
+  pub ofRoot-conj : (x : Root (O .Car)) → conjQ O (ofRoot O x) ≡ ofRoot O x
+  ofRoot-conj x = solveQ O L (two x []) (conjQ exprs (ofRoot exprs R₀)) (ofRoot exprs R₀) (tt, tt, tt, tt)
+
 -- ---- over the whole numbers
 pub root-two-laws : Laws (rootTwos ints)
 root-two-laws = rootTwos-laws ints ints-laws

@@ -80,6 +80,13 @@ module _ (O : Ops) (L : Laws O) where
   pub scale-swap : (a b : O .Car) (x : M) → scaleM O a (scaleM O b x) ≡ scaleM O b (scaleM O a x)
   scale-swap a b x = solveM O L (entriesOf x (a ∷ b ∷ [])) (scaleM exprs (var 4) (scaleM exprs (var 5) M₀)) (scaleM exprs (var 5) (scaleM exprs (var 4) M₀)) (tt, tt, tt, tt)
 
+  -- a scalar used twice moves past another, and joins another used twice
+  pub scale-past : (c a : O .Car) (x : M) → scaleM O c (scaleM O a (scaleM O a x)) ≡ scaleM O a (scaleM O a (scaleM O c x))
+  scale-past c a x = solveM O L (entriesOf x (c ∷ a ∷ [])) (scaleM exprs (var 4) (scaleM exprs (var 5) (scaleM exprs (var 5) M₀))) (scaleM exprs (var 5) (scaleM exprs (var 5) (scaleM exprs (var 4) M₀))) (tt, tt, tt, tt)
+
+  pub scale-twice : (a b : O .Car) (x : M) → scaleM O a (scaleM O a (scaleM O b (scaleM O b x))) ≡ scaleM O (O .mul b a) (scaleM O (O .mul b a) x)
+  scale-twice a b x = solveM O L (entriesOf x (a ∷ b ∷ [])) (scaleM exprs (var 4) (scaleM exprs (var 4) (scaleM exprs (var 5) (scaleM exprs (var 5) M₀)))) (scaleM exprs (var 5 ⊗ var 4) (scaleM exprs (var 5 ⊗ var 4) M₀)) (tt, tt, tt, tt)
+
   pub scale-one : (x : M) → scaleM O (O .const (pos 1)) x ≡ x
   scale-one x = solveM O L (entriesOf x []) (scaleM exprs (con (pos 1)) M₀) M₀ (tt, tt, tt, tt)
 

@@ -1,13 +1,11 @@
 -- The conjugate transposed; matrices that it inverts, up to their root twos, can be struck from the left; and M·s·M*. Assumes nothing.
 use mathlib.Core.Path.{_≡_, refl, sym, _∙_, ap, ap₂}
-use mathlib.Core.List.{List, [], _∷_}
 use Prim.Native.Nat.{ℕ, zero, suc, _+_}
 use Rattle.exact.specs.Meaning.Number.{Ops, Quad, Ω, ints, omegas, mulQ, conjQ, root2^}
 use Rattle.exact.specs.Meaning.Matrix.{Mat, unitM, mulM, scaleM, Matrix, unit, _·_, Same}
 use Rattle.exact.specs.Algebra.Ring.{ints-laws}
-use Rattle.exact.specs.Algebra.Solver.{var, _⊗_, exprs}
 use Rattle.exact.specs.Algebra.Omega.{omegas-laws, conj-add, conj-mul, root2^-add, root2^-conj}
-use Rattle.exact.specs.Matrices.Laws.{mat-path, mulM-assoc, unit-mulM, scale-mulM, mulM-scale, scale-scale, scale-both, solveM, entriesOf, M₀}
+use Rattle.exact.specs.Matrices.Laws.{mat-path, mulM-assoc, unit-mulM, scale-mulM, mulM-scale, scale-scale, scale-both, scale-past, scale-twice}
 use Rattle.exact.specs.Matrices.Same.{lifted, lifted-cancel}
 
 module _ (O : Ops) where
@@ -57,14 +55,9 @@ mul-isometry {x} {y} h k =
           ∙ ap (mulM omegas (starM ints (y .m))) (undo x h (y .m))
           ∙ mulM-scale omegas omegas-laws (root2^ (x .e)) (starM ints (y .m)) (lifted (x .e) (y .m))
           ∙ ap (lifted (x .e)) (mulM-scale omegas omegas-laws (root2^ (x .e)) (starM ints (y .m)) (y .m) ∙ ap (lifted (x .e)) (k .inverted))
-          ∙ gather (root2^ (x .e)) (root2^ (y .e)) (unitM omegas)
-          ∙ sym (ap (λ c. scaleM omegas c (scaleM omegas c (unitM omegas))) (root2^-add (x .e) (y .e)));
+          ∙ scale-twice omegas omegas-laws (root2^ (x .e)) (root2^ (y .e)) (unitM omegas)
+          ∙ sym (ap (λ c. scaleM omegas c (scaleM omegas c (unitM omegas))) (root2^-add (x .e) (y .e) ∙ omegas-laws .mul-comm (root2^ (x .e)) (root2^ (y .e))));
     }
-  where
-    gather : (a b : Ω) (x : Mat Ω) → scaleM omegas a (scaleM omegas a (scaleM omegas b (scaleM omegas b x))) ≡ scaleM omegas (mulQ ints a b) (scaleM omegas (mulQ ints a b) x)
-    gather a b x =
-        solveM omegas omegas-laws (entriesOf x (a ∷ b ∷ []))
-        (scaleM exprs (var 4) (scaleM exprs (var 4) (scaleM exprs (var 5) (scaleM exprs (var 5) M₀)))) (scaleM exprs (var 4 ⊗ var 5) (scaleM exprs (var 4 ⊗ var 5) M₀)) (tt, tt, tt, tt)
 
 pub Same-isometry : {x y : Matrix} → Same x y → Isometry x → Isometry y
 Same-isometry {x} {y} h i =
@@ -76,7 +69,8 @@ Same-isometry {x} {y} h i =
           ∙ ap (λ m. mulM omegas (starM ints m) m) (sym (h .same))
           ∙ squared (y .e) (x .m)
           ∙ ap (λ m. lifted (y .e) (lifted (y .e) m)) (i .inverted)
-          ∙ regroup (root2^ (y .e)) (root2^ (x .e)) (unitM omegas)));
+          ∙ ap (lifted (y .e)) (scale-past omegas omegas-laws (root2^ (y .e)) (root2^ (x .e)) (unitM omegas))
+          ∙ scale-past omegas omegas-laws (root2^ (y .e)) (root2^ (x .e)) (lifted (y .e) (unitM omegas))));
     }
   where
     squared : (n : ℕ) (m : Mat Ω) → mulM omegas (starM ints (lifted n m)) (lifted n m) ≡ lifted n (lifted n (mulM omegas (starM ints m) m))
@@ -84,11 +78,6 @@ Same-isometry {x} {y} h i =
         ap (λ s. mulM omegas s (lifted n m)) (star-lifted n m)
         ∙ scale-both omegas omegas-laws (root2^ n) (root2^ n) (starM ints m) m
         ∙ scale-scale omegas omegas-laws (root2^ n) (root2^ n) (mulM omegas (starM ints m) m)
-
-    regroup : (a b : Ω) (m : Mat Ω) → scaleM omegas a (scaleM omegas a (scaleM omegas b (scaleM omegas b m))) ≡ scaleM omegas b (scaleM omegas b (scaleM omegas a (scaleM omegas a m)))
-    regroup a b m =
-        solveM omegas omegas-laws (entriesOf m (a ∷ b ∷ []))
-        (scaleM exprs (var 4) (scaleM exprs (var 4) (scaleM exprs (var 5) (scaleM exprs (var 5) M₀)))) (scaleM exprs (var 5) (scaleM exprs (var 5) (scaleM exprs (var 4) (scaleM exprs (var 4) M₀)))) (tt, tt, tt, tt)
 
 -- ---- a common left factor is struck
 pub strike : {x y z : Matrix} → Isometry x → Same (x · y) (x · z) → Same y z
@@ -112,12 +101,8 @@ strike {x} {y} {z} i h =
         ap (λ c. mulM omegas (starM ints (x .m)) (scaleM omegas c (mulM omegas (x .m) (y .m)))) (root2^-add (x .e) (z .e))
         ∙ mulM-scale omegas omegas-laws (mulQ ints (root2^ (x .e)) (root2^ (z .e))) (starM ints (x .m)) (mulM omegas (x .m) (y .m))
         ∙ ap (scaleM omegas (mulQ ints (root2^ (x .e)) (root2^ (z .e)))) (undo x i (y .m))
-        ∙ regroup (root2^ (x .e)) (root2^ (z .e)) (y .m)
-      where
-        regroup : (a b : Ω) (m : Mat Ω) → scaleM omegas (mulQ ints a b) (scaleM omegas a (scaleM omegas a m)) ≡ scaleM omegas a (scaleM omegas a (scaleM omegas a (scaleM omegas b m)))
-        regroup a b m =
-            solveM omegas omegas-laws (entriesOf m (a ∷ b ∷ []))
-            (scaleM exprs (var 4 ⊗ var 5) (scaleM exprs (var 4) (scaleM exprs (var 4) M₀))) (scaleM exprs (var 4) (scaleM exprs (var 4) (scaleM exprs (var 4) (scaleM exprs (var 5) M₀)))) (tt, tt, tt, tt)
+        ∙ scale-scale omegas omegas-laws (root2^ (x .e)) (root2^ (z .e)) (lifted (x .e) (lifted (x .e) (y .m)))
+        ∙ ap (lifted (x .e)) (scale-past omegas omegas-laws (root2^ (z .e)) (root2^ (x .e)) (y .m))
 
 -- ---- M·s·M*
 abbrev pub sand : Mat Ω → Mat Ω → Mat Ω

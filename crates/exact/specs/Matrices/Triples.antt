@@ -12,7 +12,7 @@ use Rattle.exact.specs.Meaning.Word.{Letter, I, H, S, X, W, T′, letter
 use Rattle.exact.specs.Meaning.Triple.{Triple, entries, Unitary}
 use Rattle.exact.specs.Algebra.Ring.{Laws, ints-laws}
 use Rattle.exact.specs.Algebra.Solver.{Expr, var, con, _⊕_, _⊗_, _⊝_, ⊖, exprs, Use, solve, solve-from, ring₁, ring₄}
-use Rattle.exact.specs.Algebra.Omega.{omegas-laws, conj-add, conj-mul, conj-conj, X₀, X₁, X₂, parts, evalQ, solveQ}
+use Rattle.exact.specs.Algebra.Omega.{omegas-laws, conj-conj, conj-eval, X₀, X₁, X₂, parts, evalQ, solveQ}
 use Rattle.exact.specs.Algebra.OmegaPower.{omega^-add, omega^-conj}
 use Rattle.exact.specs.Algebra.Norm.{norm, unitary-equation, equation-unitary, two^}
 use Rattle.exact.specs.Matrices.Laws.{mat-path, SameMQ, passed, solveMQ}
@@ -66,13 +66,20 @@ acts-e T′ t = omega arith
 pub acts : (l : Letter) (t : Triple) → entries (act l t) ≡ letter l · entries t
 acts l t = matrix-path (acts-m l t) (acts-e l t)
 
+-- ---- the conjugate transposed
+pub star-entries : (t : Triple) → starM ints (entries t .m) ≡ record { p = conjQ ints (t .z); q = conjQ ints (t .w); r = negQ ints (mulQ ints (t .w) (conjQ ints (omega^ (t .n)))); s = mulQ ints (t .z) (conjQ ints (omega^ (t .n))) }
+star-entries t =
+    mat-path refl refl
+    (conj-eval (conjQ ints (t .w) ∷ omega^ (t .n) ∷ []) (⊖ (var 0 ⊗ var 1)) ∙ ap (λ x. negQ ints (mulQ ints x (conjQ ints (omega^ (t .n))))) (conj-conj ints ints-laws (t .w)))
+    (conj-eval (conjQ ints (t .z) ∷ omega^ (t .n) ∷ []) (var 0 ⊗ var 1) ∙ ap (λ x. mulQ ints x (conjQ ints (omega^ (t .n)))) (conj-conj ints ints-laws (t .z)))
+
 -- ---- unitary
 -- the four entries of M*·M, for numbers z and w, their conjugates, and u with its inverse v
 pub unitary-isometry : {t : Triple} → Unitary t → Isometry (entries t)
 unitary-isometry {t} h =
     record {
       inverted =
-          ap (λ s. mulM omegas s (entries t .m)) star-is
+          ap (λ s. mulM omegas s (entries t .m)) (star-entries t)
           ∙ mat-path
           (ring₄ omegas omegas-laws (λ z z* w w*. z* ⊗ z ⊕ w* ⊗ w) (λ z z* w w*. z ⊗ z* ⊕ w ⊗ w*) tt z z* w w* ∙ size ∙ sym (one-at (root2^ (t .k))))
           (solve omegas omegas-laws (z* ∷ w* ∷ u ∷ []) (var 0 ⊗ ⊖ (var 1 ⊗ var 2) ⊕ var 1 ⊗ (var 0 ⊗ var 2)) (con (pos 0)) tt ∙ sym (nil-at (root2^ (t .k))))
@@ -100,18 +107,6 @@ unitary-isometry {t} h =
 
     v : Ω
     v = conjQ ints (omega^ (t .n))
-
-    star-is : starM ints (entries t .m) ≡ record { p = z*; q = w*; r = negQ ints (mulQ ints w v); s = mulQ ints z v }
-    star-is =
-        mat-path refl refl
-        (conj-neg (mulQ ints w* u) ∙ ap (negQ ints) (conj-back (t .w) u))
-        (conj-back (t .z) u)
-      where
-        conj-neg : (x : Ω) → conjQ ints (negQ ints x) ≡ negQ ints (conjQ ints x)
-        conj-neg x = solveQ ints ints-laws (parts x []) (conjQ exprs (negQ exprs X₀)) (negQ exprs (conjQ exprs X₀)) (tt, tt, tt, tt)
-
-        conj-back : (x y : Ω) → conjQ ints (mulQ ints (conjQ ints x) y) ≡ mulQ ints x (conjQ ints y)
-        conj-back x y = conj-mul ints ints-laws (conjQ ints x) y ∙ ap (λ c. mulQ ints c (conjQ ints y)) (conj-conj ints ints-laws x)
 
     size : addQ ints (norm (t .z)) (norm (t .w)) ≡ mulQ ints (root2^ (t .k)) (root2^ (t .k))
     size = unitary-equation h ∙ two^ (t .k)
@@ -152,3 +147,48 @@ word-triple (l ∷ u) = acts l (tripleOf u) ∙ ap (λ x. letter l · x) (word-t
 pub word-unitary : (u : List Letter) → Unitary (tripleOf u)
 word-unitary [] = record { squares-sum = refl; crosses-sum = refl }
 word-unitary (l ∷ u) = unitary-act l (word-unitary u)
+
+-- ---- the product of two triples
+abbrev pub mulT : Triple → Triple → Triple
+mulT s t = record {
+  k = s .k + t .k;
+  n = s .n + t .n;
+  z = addQ ints (mulQ ints (s .z) (t .z)) (negQ ints (mulQ ints (mulQ ints (conjQ ints (s .w)) (omega^ (s .n))) (t .w)));
+  w = addQ ints (mulQ ints (s .w) (t .z)) (mulQ ints (mulQ ints (conjQ ints (s .z)) (omega^ (s .n))) (t .w));
+}
+
+pub mulT-is : (s t : Triple) → entries (mulT s t) ≡ entries s · entries t
+mulT-is s t =
+    matrix-path
+    (mat-path
+    (solve omegas omegas-laws xs (var 0 ⊗ var 6 ⊕ ⊖ (var 3 ⊗ var 4 ⊗ var 8)) (var 0 ⊗ var 6 ⊕ ⊖ (var 3 ⊗ var 4) ⊗ var 8) tt)
+    (ap₂ (λ x y. negQ ints (mulQ ints x y)) (conj-eval xs (var 2 ⊗ var 6 ⊕ var 1 ⊗ var 4 ⊗ var 8) ∙ ap (λ a. addQ ints (mulQ ints w* z₂*) (mulQ ints (mulQ ints a v) w₂*)) (conj-conj ints ints-laws (s .z))) (omega^-add (s .n) (t .n))
+    ∙ solve-from omegas omegas-laws xs (record { c = ⊖ (var 0 ⊗ var 9 ⊗ var 10); l = var 4 ⊗ var 5; r = con (pos 1) } ∷ [])
+    (⊖ ((var 3 ⊗ var 7 ⊕ var 0 ⊗ var 5 ⊗ var 9) ⊗ (var 4 ⊗ var 10))) (var 0 ⊗ ⊖ (var 9 ⊗ var 10) ⊕ ⊖ (var 3 ⊗ var 4) ⊗ (var 7 ⊗ var 10)) tt (omega^-conj (s .n), tt))
+    (solve omegas omegas-laws xs (var 2 ⊗ var 6 ⊕ var 1 ⊗ var 4 ⊗ var 8) (var 2 ⊗ var 6 ⊕ var 1 ⊗ var 4 ⊗ var 8) tt)
+    (ap₂ (mulQ ints) (conj-eval xs (var 0 ⊗ var 6 ⊕ ⊖ (var 3 ⊗ var 4 ⊗ var 8)) ∙ ap (λ a. addQ ints (mulQ ints z* z₂*) (negQ ints (mulQ ints (mulQ ints a v) w₂*))) (conj-conj ints ints-laws (s .w))) (omega^-add (s .n) (t .n))
+    ∙ solve-from omegas omegas-laws xs (record { c = ⊖ (var 2 ⊗ var 9 ⊗ var 10); l = var 4 ⊗ var 5; r = con (pos 1) } ∷ [])
+    ((var 1 ⊗ var 7 ⊕ ⊖ (var 2 ⊗ var 5 ⊗ var 9)) ⊗ (var 4 ⊗ var 10)) (var 2 ⊗ ⊖ (var 9 ⊗ var 10) ⊕ var 1 ⊗ var 4 ⊗ (var 7 ⊗ var 10)) tt (omega^-conj (s .n), tt)))
+    refl
+  where
+    z* : Ω
+    z* = conjQ ints (s .z)
+
+    w* : Ω
+    w* = conjQ ints (s .w)
+
+    v : Ω
+    v = conjQ ints (omega^ (s .n))
+
+    z₂* : Ω
+    z₂* = conjQ ints (t .z)
+
+    w₂* : Ω
+    w₂* = conjQ ints (t .w)
+
+    -- z, z*, w, w*, u, u* of the first; z, z*, w, w*, u of the second
+    xs : List Ω
+    xs = s .z ∷ z* ∷ s .w ∷ w* ∷ omega^ (s .n) ∷ v ∷ t .z ∷ z₂* ∷ t .w ∷ w₂* ∷ omega^ (t .n) ∷ []
+
+pub unitary-mulT : {s t : Triple} → Unitary s → Unitary t → Unitary (mulT s t)
+unitary-mulT {s} {t} u v = isometry-unitary (rw (mulT-is s t) (mul-isometry (unitary-isometry u) (unitary-isometry v)))

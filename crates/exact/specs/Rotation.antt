@@ -1,0 +1,4 @@
+-- The rotation that a matrix is, in vectors over ℤ[root two]: of words and of triples; parities of the turned vectors.
+pub mod Vectors
+pub mod Turns
+pub mod Triples
