@@ -4,3 +4,4 @@ pub mod Whole
 pub mod Algebra
 pub mod Matrices
 pub mod Rotation
+pub mod Unique

@@ -4,4 +4,5 @@ pub mod Matrix
 pub mod Word
 pub mod Triple
 pub mod Normal
+pub mod Clifford
 pub mod Limits

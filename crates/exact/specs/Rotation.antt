@@ -2,3 +2,4 @@
 pub mod Vectors
 pub mod Turns
 pub mod Triples
+pub mod Parity
