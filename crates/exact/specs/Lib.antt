@@ -3,5 +3,6 @@ pub mod Meaning
 pub mod Whole
 pub mod Algebra
 pub mod Matrices
+pub mod Cases
 pub mod Rotation
 pub mod Unique

@@ -22,23 +22,19 @@ norm x = mulQ ints x (conjQ ints x)
 abbrev real : ℤ → ℤ → Ω
 real p q = record { a = negℤ q; b = pos 0; c = q; d = p }
 
-pub norm-is : (x : Ω) → norm x ≡ real (squares x) (crosses x)
+pub norm-is : (x : Ω) → norm x ≡ real (squares ints x) (crosses ints x)
 norm-is x =
     solveQ ints ints-laws (parts x []) (mulQ exprs X₀ (conjQ exprs X₀))
-    (record { a = ⊖ crossE; b = con (pos 0); c = crossE; d = X₀ .a ⊗ X₀ .a ⊕ X₀ .b ⊗ X₀ .b ⊕ X₀ .c ⊗ X₀ .c ⊕ X₀ .d ⊗ X₀ .d })
-    (tt, tt, tt, tt)
-  where
-    crossE : Expr
-    crossE = X₀ .a ⊗ X₀ .b ⊕ X₀ .b ⊗ X₀ .c ⊕ X₀ .c ⊗ X₀ .d ⊝ X₀ .d ⊗ X₀ .a
+    (record { a = ⊖ (crosses exprs X₀); b = con (pos 0); c = crosses exprs X₀; d = squares exprs X₀ }) (tt, tt, tt, tt)
 
 -- ---- unitary, as one equation
-sum-is : (z w : Ω) → addQ ints (norm z) (norm w) ≡ addQ ints (real (squares z) (crosses z)) (real (squares w) (crosses w))
+sum-is : (z w : Ω) → addQ ints (norm z) (norm w) ≡ addQ ints (real (squares ints z) (crosses ints z)) (real (squares ints w) (crosses ints w))
 sum-is z w = ap₂ (addQ ints) (norm-is z) (norm-is w)
 
 pub unitary-equation : {t : Triple} → Unitary t → addQ ints (norm (t .z)) (norm (t .w)) ≡ constQ ints (pos (2 ^ t .k))
 unitary-equation {t} u =
     sum-is (t .z) (t .w)
-    ∙ quad-path (opposite (crosses (t .z)) (crosses (t .w)) ∙ ap negℤ (u .crosses-sum)) refl (u .crosses-sum) (u .squares-sum)
+    ∙ quad-path (opposite (crosses ints (t .z)) (crosses ints (t .w)) ∙ ap negℤ (u .crosses-sum)) refl (u .crosses-sum) (u .squares-sum)
   where
     opposite : (a b : ℤ) → negℤ a +ℤ negℤ b ≡ negℤ (a +ℤ b)
     opposite = ring₂ ints ints-laws (λ a b. ⊖ a ⊕ ⊖ b) (λ a b. ⊖ (a ⊕ b)) tt
@@ -72,7 +68,7 @@ module _ (a b c d : Bool) where
   abbrev pub normResidue : ℕ
   normResidue = bit oddCrosses * 8 + 0 * 4 + bit oddCrosses * 2 + bit oddSquares
 
-odd-squares : (x : Ω) → odd (squares x) ≡ oddSquares (odd (x .a)) (odd (x .b)) (odd (x .c)) (odd (x .d))
+odd-squares : (x : Ω) → odd (squares ints x) ≡ oddSquares (odd (x .a)) (odd (x .b)) (odd (x .c)) (odd (x .d))
 odd-squares x =
     odd-add (x .a *ℤ x .a +ℤ x .b *ℤ x .b +ℤ x .c *ℤ x .c) (x .d *ℤ x .d)
     ∙ ap₂ xr
@@ -80,7 +76,7 @@ odd-squares x =
     ∙ ap₂ xr (odd-add (x .a *ℤ x .a) (x .b *ℤ x .b) ∙ ap₂ xr (odd-mul (x .a) (x .a)) (odd-mul (x .b) (x .b))) (odd-mul (x .c) (x .c)))
     (odd-mul (x .d) (x .d))
 
-odd-crosses : (x : Ω) → odd (crosses x) ≡ oddCrosses (odd (x .a)) (odd (x .b)) (odd (x .c)) (odd (x .d))
+odd-crosses : (x : Ω) → odd (crosses ints x) ≡ oddCrosses (odd (x .a)) (odd (x .b)) (odd (x .c)) (odd (x .d))
 odd-crosses x =
     odd-sub (x .a *ℤ x .b +ℤ x .b *ℤ x .c +ℤ x .c *ℤ x .d) (x .d *ℤ x .a)
     ∙ ap₂ xr
@@ -91,7 +87,7 @@ odd-crosses x =
 pub norm-residue : (x : Ω) → residue (norm x) ≡ normResidue (odd (x .a)) (odd (x .b)) (odd (x .c)) (odd (x .d))
 norm-residue x =
     ap residue (norm-is x)
-    ∙ ap₂ (λ p q. bit p * 8 + 0 * 4 + bit q * 2 + bit (odd (squares x))) (odd-neg (crosses x) ∙ odd-crosses x) (odd-crosses x)
+    ∙ ap₂ (λ p q. bit p * 8 + 0 * 4 + bit q * 2 + bit (odd (squares ints x))) (odd-neg (crosses ints x) ∙ odd-crosses x) (odd-crosses x)
     ∙ ap (λ r. bit (oddCrosses (odd (x .a)) (odd (x .b)) (odd (x .c)) (odd (x .d))) * 8 + 0 * 4 + bit (oddCrosses (odd (x .a)) (odd (x .b)) (odd (x .c)) (odd (x .d))) * 2 + bit r) (odd-squares x)
 
 -- a test at both truth values

@@ -9,7 +9,7 @@ use lib.IntN.{ℤ, pos, negsuc}
 use Rattle.exact.specs.Meaning.Number.{Ops, Quad, Ω, ints, omegas, quads, power, addQ, negQ, mulQ, constQ, conjQ, omega′, omega^, root2^}
 use Rattle.exact.specs.Meaning.Matrix.{Mat, unitM, mulM, scaleM, Matrix, _·_, Same}
 use Rattle.exact.specs.Meaning.Word.{Letter, I, H, S, X, W, T′, letterM, letter, word}
-use Rattle.exact.specs.Meaning.Triple.{Triple, entries, Unitary}
+use Rattle.exact.specs.Meaning.Triple.{Triple, rows, entries, Unitary}
 use Rattle.exact.specs.Algebra.Ring.{Laws, ints-laws}
 use Rattle.exact.specs.Algebra.Solver.{Expr, var, con, _⊕_, _⊗_, _⊝_, ⊖, exprs, Use, solve, solve-from, ring₁, ring₄}
 use Rattle.exact.specs.Algebra.Omega.{omegas-laws, conj-conj, conj-eval, X₀, X₁, X₂, parts, evalQ, solveQ}
@@ -19,11 +19,6 @@ use Rattle.exact.specs.Matrices.Laws.{mat-path, SameMQ, passed, solveMQ}
 use Rattle.exact.specs.Matrices.Same.{matrix-path, lifted}
 use Rattle.exact.specs.Matrices.Star.{starM, Isometry, mul-isometry, Same-isometry}
 use Rattle.exact.specs.Matrices.Words.{letter-isometry}
-
--- document 01's rows, over any ring; u stands for omega^n
-module _ (O : Ops) where
-  abbrev rows : Quad (O .Car) → Quad (O .Car) → Quad (O .Car) → Mat (Quad (O .Car))
-  rows z w u = record { p = z; q = negQ O (mulQ O (conjQ O w) u); r = w; s = mulQ O (conjQ O z) u }
 
 -- ---- letters
 abbrev pub act : Letter → Triple → Triple

@@ -1,9 +1,9 @@
 -- Triples, as document 01 has them: (z,w,n) with exponent k, the matrix that it stands for, and when it is unitary and reduced.
 use mathlib.Core.Path.{_≡_}
 use Prim.Native.Nat.{ℕ, _^_}
-use lib.IntN.{ℤ, pos, _+ℤ_, _-ℤ_, _*ℤ_}
-use Rattle.exact.specs.Meaning.Number.{Ω, ints, mulQ, negQ, conjQ, omega^}
-use Rattle.exact.specs.Meaning.Matrix.{Matrix, Least}
+use lib.IntN.{ℤ, pos, _+ℤ_}
+use Rattle.exact.specs.Meaning.Number.{Ops, Quad, Ω, ints, mulQ, negQ, conjQ, omega^}
+use Rattle.exact.specs.Meaning.Matrix.{Mat, Matrix, Least}
 
 pub record Triple : Type 0 where
   pub k : ℕ
@@ -11,27 +11,30 @@ pub record Triple : Type 0 where
   pub z : Ω
   pub w : Ω
 
--- rows [z, -w*·omega^n] and [w, z*·omega^n], over root two to the k
+module _ (O : Ops) where
+  open Ops O using (Car, add as _+′_, mul as _*′_, neg)
+
+  infixl 6 _+′_
+  infixl 7 _*′_
+  -- rows [z, -w*·u] and [w, z*·u]; u is omega^n
+  abbrev pub rows : Quad Car → Quad Car → Quad Car → Mat (Quad Car)
+  rows z w u = record { p = z; q = negQ O (mulQ O (conjQ O w) u); r = w; s = mulQ O (conjQ O z) u }
+
+  -- a² + b² + c² + d²
+  abbrev pub squares : Quad Car → Car
+  squares x = x .a *′ x .a +′ x .b *′ x .b +′ x .c *′ x .c +′ x .d *′ x .d
+
+  -- ab + bc + cd - da
+  abbrev pub crosses : Quad Car → Car
+  crosses x = x .a *′ x .b +′ x .b *′ x .c +′ x .c *′ x .d +′ neg (x .d *′ x .a)
+
+-- the matrix: the rows over root two to the k
 abbrev pub entries : Triple → Matrix
-entries t = record {
-  m = record {
-    p = t .z;
-    q = negQ ints (mulQ ints (conjQ ints (t .w)) (omega^ (t .n)));
-    r = t .w;
-    s = mulQ ints (conjQ ints (t .z)) (omega^ (t .n));
-  };
-  e = t .k;
-}
-
-abbrev pub squares : Ω → ℤ
-squares x = x .a *ℤ x .a +ℤ x .b *ℤ x .b +ℤ x .c *ℤ x .c +ℤ x .d *ℤ x .d
-
-abbrev pub crosses : Ω → ℤ
-crosses x = x .a *ℤ x .b +ℤ x .b *ℤ x .c +ℤ x .c *ℤ x .d -ℤ x .d *ℤ x .a
+entries t = record { m = rows ints (t .z) (t .w) (omega^ (t .n)); e = t .k }
 
 pub record Unitary (t : Triple) : Type 0 where
-  pub squares-sum : squares (t .z) +ℤ squares (t .w) ≡ pos (2 ^ t .k)
-  pub crosses-sum : crosses (t .z) +ℤ crosses (t .w) ≡ pos 0
+  pub squares-sum : squares ints (t .z) +ℤ squares ints (t .w) ≡ pos (2 ^ t .k)
+  pub crosses-sum : crosses ints (t .z) +ℤ crosses ints (t .w) ≡ pos 0
 
 -- k is the least exponent not below 0
 pub record Reduced (t : Triple) : Type 0 where

@@ -162,7 +162,7 @@ module _ (front : Front → List Letter) (fronts : Fronts front) where
   spelled-image t fits =
       turn-append (front (t .front)) (times (t .xs) X ++ ending (t .ss) (t .ws)) e₃
       ∙ ap (turn (front (t .front))) (turn-append (times (t .xs) X) (ending (t .ss) (t .ws)) e₃ ∙ ap (turn (times (t .xs) X)) (turn-ending (t .ss) (t .ws)))
-      ∙ x-image (t .front) (t .xs) (fits .xs-few)
+      ∙ x-image (t .front) (t .xs) (omega (arith, fits .xs-few))
 
   pub spelled-unique : (t r : Tail) → Fits t → Fits r → Same (word (spelled t)) (word (spelled r)) → t ≡ r
   spelled-unique t r ft fr h =
