@@ -10,7 +10,7 @@ use mir.Syntax.{w64}
 use mir.Val.{SFits, hbits}
 use Rattle.exact.specs.Meaning.Number.{ints}
 use Rattle.exact.specs.Algebra.Solver.{at}
-use Rattle.exact.specs.Matrices.Sizes.{Sized}
+use Rattle.exact.specs.Meaning.Number.{Sized}
 use Rattle.exact.specs.Whole.Size.{Within}
 use Rattle.exact.specs.Whole.Machine.{Code, value, held, ran, allFit, need-by, result-by}
 use Rattle.ring.specs.Number.{quad, four}

@@ -7,7 +7,7 @@ use Rattle.exact.specs.Meaning.Number.{Quad, Ω, ints, mulQ, omega′}
 use Rattle.exact.specs.Algebra.Ring.{ints-laws}
 use Rattle.exact.specs.Algebra.Solver.{con, _⊝_, ⊖, exprs}
 use Rattle.exact.specs.Algebra.Omega.{quad-path, X₀, parts, solveQ}
-use Rattle.exact.specs.Matrices.Sizes.{Sized}
+use Rattle.exact.specs.Meaning.Number.{Sized}
 use Rattle.exact.specs.Whole.Size.{Within}
 use Rattle.ring.specs.declared.ZOmega.{ZOmega}
 

@@ -1,7 +1,7 @@
 // Ring numbers a·omega^3 + b·omega^2 + c·omega + d with 64-bit coefficients, after src/ring in the Rust.
 ghost use mathlib.Core.Path.{_≡_};
 ghost use Prim.Native.Nat.{_^_};
-ghost use Rattle.exact.specs.Matrices.Sizes.{Sized};
+ghost use Rattle.exact.specs.Meaning.Number.{Sized};
 ghost use Rattle.exact.specs.Meaning.Number.{ints, addQ, negQ, mulQ, omega′, residue};
 ghost use Rattle.exact.specs.Meaning.Number as Meaning;
 ghost use Rattle.exact.specs.Meaning.Triple.{squares, crosses};

@@ -1,18 +1,18 @@
 -- A unitary triple's coefficients are small: their squares sum to 2^k, so each is at most 2^j in size where k is at most twice j. Assumes nothing.
 use mathlib.Core.Path.{_≡_, refl, sym, _∙_, ap, ap₂}
+use mathlib.Core.List.{List, [], _∷_}
 use Prim.Native.Nat.{ℕ, zero, suc, _+_, _*_, _^_, _≤_, _<_}
 use native.Mathlib.Nat.{mul-le-mul}
 use native.Mathlib.Omega.{arith}
 use lib.Pow.{pow-mono, pow-add}
-use lib.IntN.{ℤ, pos, negsuc, natAbs, _+ℤ_, _*ℤ_}
-use Rattle.exact.specs.Meaning.Number.{Ω, ints}
-use Rattle.exact.specs.Meaning.Triple.{Triple, squares, Unitary}
-
-pub record Sized (n : ℕ) (x : Ω) : Type 0 where
-  pub a-small : natAbs (x .a) ≤ n
-  pub b-small : natAbs (x .b) ≤ n
-  pub c-small : natAbs (x .c) ≤ n
-  pub d-small : natAbs (x .d) ≤ n
+use lib.IntN.{ℤ, pos, negsuc, natAbs, _+ℤ_, _-ℤ_, _*ℤ_}
+use Rattle.exact.specs.Meaning.Number.{Ω, ints, addQ, negQ, mulQ, omega′, Sized}
+use Rattle.exact.specs.Meaning.Triple.{Triple, squares, crosses, Unitary}
+use Rattle.exact.specs.Whole.Parity.{half}
+use Rattle.exact.specs.Whole.Size.{natAbs-add, natAbs-sub, natAbs-neg, Within, abs-by}
+use Rattle.exact.specs.Algebra.Solver.{exprs}
+use Rattle.exact.specs.Algebra.Omega.{X₀, parts, times-omega}
+use Rattle.exact.specs.Algebra.Over.{over}
 
 pub sized-le : {m n : ℕ} {x : Ω} → m ≤ n → Sized m x → Sized n x
 sized-le h s = omega arith
@@ -68,3 +68,49 @@ module _ {t : Triple} (u : Unitary t) (j : ℕ) (h : t .k ≤ j + j) where
   w-sized =
       let l = below in
       record { a-small = each (t .w .a) (omega arith); b-small = each (t .w .b) (omega arith); c-small = each (t .w .c) (omega arith); d-small = each (t .w .d) (omega arith) }
+
+-- ---- division by root two, and sums
+half-le : (x y : ℤ) (n : ℕ) → natAbs x ≤ n → natAbs y ≤ n → (natAbs (half (x +ℤ y)) ≤ n) × (natAbs (half (x -ℤ y)) ≤ n)
+half-le x y n h k = (omega (arith, half-size (x +ℤ y), natAbs-add x y), omega (arith, half-size (x -ℤ y), natAbs-sub x y))
+  where
+    half-size : (z : ℤ) → natAbs (half z) + natAbs (half z) ≤ natAbs z + 1
+    half-size (pos n) = omega arith
+    half-size (negsuc n) = omega arith
+
+pub over-sized : (n : ℕ) (x : Ω) → Sized n x → Sized n (over x)
+over-sized n x s =
+    let bd = half-le (x .b) (x .d) n (s .b-small) (s .d-small) in
+    let ca = half-le (x .c) (x .a) n (s .c-small) (s .a-small) in
+    record { a-small = bd .1; b-small = ca .0; c-small = bd .0; d-small = ca .1 }
+
+pub add-sized : (m n : ℕ) (x y : Ω) → Sized m x → Sized n y → Sized (m + n) (addQ ints x y)
+add-sized m n x y s t =
+    record {
+      a-small = omega (arith, natAbs-add (x .a) (y .a), s .a-small, t .a-small);
+      b-small = omega (arith, natAbs-add (x .b) (y .b), s .b-small, t .b-small);
+      c-small = omega (arith, natAbs-add (x .c) (y .c), s .c-small, t .c-small);
+      d-small = omega (arith, natAbs-add (x .d) (y .d), s .d-small, t .d-small);
+    }
+
+pub neg-sized : (n : ℕ) (x : Ω) → Sized n x → Sized n (negQ ints x)
+neg-sized n x s =
+    record {
+      a-small = rw (natAbs-neg (x .a)) (s .a-small);
+      b-small = rw (natAbs-neg (x .b)) (s .b-small);
+      c-small = rw (natAbs-neg (x .c)) (s .c-small);
+      d-small = rw (natAbs-neg (x .d)) (s .d-small);
+    }
+
+pub omega-sized : (n : ℕ) (x : Ω) → Sized n x → Sized n (mulQ ints (omega′ ints) x)
+omega-sized n x s = rw (times-omega x) (record { a-small = s .b-small; b-small = s .c-small; c-small = s .d-small; d-small = rw (natAbs-neg (x .a)) (s .a-small) })
+
+-- ---- the two sums
+module _ (x : Ω) (s : Sized (2 ^ 30) x) where
+  within : Within (parts x []) (2 ^ 30 ∷ 2 ^ 30 ∷ 2 ^ 30 ∷ 2 ^ 30 ∷ [])
+  within = (s .a-small, (s .b-small, (s .c-small, (s .d-small, tt))))
+
+  pub squares-size : natAbs (squares ints x) ≤ 2 ^ 62
+  squares-size = abs-by (parts x []) (2 ^ 30 ∷ 2 ^ 30 ∷ 2 ^ 30 ∷ 2 ^ 30 ∷ []) within (squares exprs X₀) (2 ^ 62) tt
+
+  pub crosses-size : natAbs (crosses ints x) ≤ 2 ^ 62
+  crosses-size = abs-by (parts x []) (2 ^ 30 ∷ 2 ^ 30 ∷ 2 ^ 30 ∷ 2 ^ 30 ∷ []) within (crosses exprs X₀) (2 ^ 62) tt
