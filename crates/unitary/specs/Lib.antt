@@ -3,3 +3,5 @@ pub mod Triples
 pub mod Outcomes
 pub mod Checks
 pub mod Acts
+pub mod Letters
+pub mod Reading

@@ -5,12 +5,15 @@ ghost use lib.IntN.{pos, natAbs};
 ghost use Rattle.exact.specs.Meaning.Limits.{largest, deepest};
 ghost use Rattle.exact.specs.Meaning.Number.{Sized};
 ghost use Rattle.exact.specs.Meaning.Word as Word;
+ghost use Rattle.exact.specs.Meaning.Word.{In};
+ghost use Rattle.exact.specs.Cases.Letters.{letterOf};
 ghost use Rattle.exact.specs.Matrices.Least.{lowered, modEight};
 ghost use Rattle.exact.specs.Matrices.Triples.{act, identity};
 ghost use Rattle.ring.specs.Number.{quad, Small};
 ghost use Rattle.unitary.specs.Triples.{triple, none};
 ghost use Rattle.unitary.specs.Outcomes.{InCoefficients, Answers, ReduceOutcome, MatrixOutcome};
 ghost use Rattle.unitary.specs.Checks.{Decides, UnitaryAt, CheckOutcome, bothTest};
+ghost use Rattle.unitary.specs.Letters.{Scanned};
 ghost use Rattle.unitary.specs.Acts.{Good, Acted, Both};
 
 use ring::ZOmega;
@@ -244,4 +247,96 @@ pub fn reduce(k: i64, n: u8, z: ZOmega, w: ZOmega) -> Checked
     let t = DOmegaUnitary { z: z, w: w, n: n, k: k as u8 };
     let matrix = t.reduce_denomexp();
     Checked { refusal: 0, matrix: matrix }
+}
+
+// ---- words
+
+// A letter of job 2.
+fn is_letter(g: u8) -> bool
+    ensures { λ r. ⌜ Decides (In Word.job2 g) r ⌝ }
+{
+    if g == b'I' {
+        return true;
+    }
+    if g == b'H' {
+        return true;
+    }
+    if g == b'S' {
+        return true;
+    }
+    if g == b'X' {
+        return true;
+    }
+    if g == b'W' {
+        return true;
+    }
+    g == b'T'
+}
+
+// The first place whose byte is no letter, or the length.
+fn first_outside(word: &[u8]) -> usize
+    ensures { λ r. ⌜ Scanned Word.job2 (now (word .entry)) r ⌝ }
+{
+    let mut i: usize = 0;
+    while i < word.len() {
+        let g = word[i];
+        if !is_letter(g) {
+            return i;
+        }
+        i += 1;
+    }
+    i
+}
+
+impl DOmegaUnitary {
+    // Only H can change the exponent, by at most one either way.
+    fn mul_by_letter_from_left(self, g: u8) -> DOmegaUnitary
+        requires { ⌜ Good self ⌝ ∗ ⌜ self .k ≤ deepest ⌝ }
+        ensures { λ r. ⌜ Acted (letterOf g) self r ⌝ }
+    {
+        if g == b'H' {
+            let t = self.mul_by_h_from_left();
+            return t.reduce_denomexp();
+        }
+        if g == b'S' {
+            return self.mul_by_s_from_left();
+        }
+        if g == b'X' {
+            return self.mul_by_x_from_left();
+        }
+        if g == b'W' {
+            return self.mul_by_w_from_left();
+        }
+        if g == b'T' {
+            return self.mul_by_t_from_left();
+        }
+        self
+    }
+}
+
+// Job 2: word to matrix. The word is read from its right end, and each ending is kept reduced.
+pub fn from_gates(word: &[u8]) -> FromGates
+    ensures { λ r. ⌜ MatrixOutcome (now (word .entry)) r ⌝ }
+{
+    if word.len() > exact::LONGEST {
+        let matrix = nothing();
+        return FromGates { refusal: exact::LONG, place: 0, matrix: matrix };
+    }
+    let bad = first_outside(word);
+    if bad < word.len() {
+        let matrix = nothing();
+        return FromGates { refusal: exact::LETTER, place: bad, matrix: matrix };
+    }
+    let mut t = DOmegaUnitary::identity();
+    let mut i = word.len();
+    while i > 0 {
+        let g = word[i - 1];
+        i -= 1;
+        t = t.mul_by_letter_from_left(g);
+        if t.k > 60 {
+            let matrix = nothing();
+            return FromGates { refusal: exact::DEEP, place: i, matrix: matrix };
+        }
+    }
+    FromGates { refusal: 0, place: 0, matrix: t }
 }
