@@ -5,3 +5,4 @@ pub mod Checks
 pub mod Acts
 pub mod Letters
 pub mod Reading
+pub mod Unique
