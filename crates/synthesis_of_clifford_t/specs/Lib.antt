@@ -1,0 +1,2 @@
+-- Synthesis: the step that document 01 describes, why it ends, what it writes and how much. Proofs over the definitions of `exact`.
+pub mod Residues
