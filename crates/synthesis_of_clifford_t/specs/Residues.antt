@@ -235,10 +235,12 @@ class-0000 x e = rw (divides-odds x) (go (classOf (odds x)) (sym (norm-residue x
     go : (n : ℕ) → n ≡ 0 → T (implies (eqb n 0) (dividesOf (odds x))) → T (dividesOf (odds x))
     go n e t = rw e at t
 
--- an odd number of odd coefficients is the class 0001, an even number 0000 or 1010
-pub even-class : (x : Ω) → odd (squares ints x) ≡ false → residue (norm x) ≡ 0b0001 → ⊥
-even-class x e f = go (odd (crosses ints x)) (sym f ∙ class-is x ∙ ap (classBy (odd (crosses ints x))) e)
+-- the class 0001 has an odd number of odd coefficients
+odd-total : (q : Quad Bool) → T (implies (eqb (classOf q) 0b0001) (xr (xr (q .b) (q .d)) (xr (q .c) (q .a))))
+odd-total = everywhere-at (λ q. implies (eqb (classOf q) 0b0001) (xr (xr (q .b) (q .d)) (xr (q .c) (q .a)))) tt
+
+pub class-0001 : (x : Ω) → residue (norm x) ≡ 0b0001 → T (xr (odd (x .b +ℤ x .d)) (odd (x .c +ℤ x .a)))
+class-0001 x e = rw (odd-add (x .b) (x .d), odd-add (x .c) (x .a)) (go (classOf (odds x)) (sym (norm-residue x) ∙ e) (odd-total (odds x)))
   where
-    go : (p : Bool) → 1 ≡ classBy p false → ⊥
-    go true h = omega arith
-    go false h = omega arith
+    go : (n : ℕ) → n ≡ 1 → T (implies (eqb n 0b0001) (xr (xr (odd (x .b)) (odd (x .d))) (xr (odd (x .c)) (odd (x .a))))) → T (xr (xr (odd (x .b)) (odd (x .d))) (xr (odd (x .c)) (odd (x .a))))
+    go n e t = rw e at t
