@@ -205,6 +205,15 @@ classBy p q = bit p * 8 + 0 * 4 + bit p * 2 + bit q
 class-is : (x : Ω) → residue (norm x) ≡ classBy (odd (crosses ints x)) (odd (squares ints x))
 class-is x = ap residue (norm-is x) ∙ ap (λ p. bit p * 8 + 0 * 4 + bit (odd (crosses ints x)) * 2 + bit (odd (squares ints x))) (odd-neg (crosses ints x))
 
+pub four-classes : (x : Ω) → (residue (norm x) ≡ 0b0000 → ⊥) → (residue (norm x) ≡ 0b0001 → ⊥) → (residue (norm x) ≡ 0b1010 → ⊥) → (residue (norm x) ≡ 0b1011 → ⊥) → ⊥
+four-classes x f g h k = go (odd (crosses ints x)) (odd (squares ints x)) (class-is x)
+  where
+    go : (p q : Bool) → residue (norm x) ≡ classBy p q → ⊥
+    go true true e = k e
+    go true false e = h e
+    go false true e = g e
+    go false false e = f e
+
 even-power : (k : ℕ) → odd (pos (2 ^ suc k)) ≡ false
 even-power k = ne-eqb (2 ^ suc k % 2) 1 (λ e. omega arith)
 

@@ -14,19 +14,20 @@ use Rattle.exact.specs.Meaning.Matrix.{Mat, scaleM, Matrix, unit, _·_, Same, L
 use Rattle.exact.specs.Meaning.Word.{Letter, I, H, S, X, W, T′, letter, word}
 use Rattle.exact.specs.Meaning.Normal.{times}
 use Rattle.exact.specs.Meaning.Triple.{Triple, rows, entries, Unitary, Reduced}
-use Rattle.exact.specs.Whole.Parity.{xr, xr-self, odd-add, odd-sub, odd-neg, half, half-plus, half-double, halved, odd-other, false-true}
+use Rattle.exact.specs.Whole.Parity.{xr, xr-self, odd-add, odd-sub, odd-neg, half, half-plus, half-minus, false-true}
 use Rattle.exact.specs.Algebra.Ring.{ints-laws}
-use Rattle.exact.specs.Algebra.Omega.{omegas-laws, quad-path, root2^-add}
+use Rattle.exact.specs.Algebra.Solver.{_⊗_, exprs, ring₃}
+use Rattle.exact.specs.Algebra.Omega.{omegas-laws, quad-path, root2^-add, X₀, parts, solveQ}
 use Rattle.exact.specs.Algebra.OmegaPower.{omega^-mod}
 use Rattle.exact.specs.Algebra.Norm.{norm, no-1011}
-use Rattle.exact.specs.Algebra.Over.{divides, over, over-times, root2-times}
+use Rattle.exact.specs.Algebra.Over.{divides, over, over-times, root2-times, even-sums}
 use Rattle.exact.specs.Matrices.Laws.{scale-scale}
 use Rattle.exact.specs.Matrices.Same.{mul-assoc, unit-mul, lifted, lifted-cancel, Same-refl, Same-sym, Same-trans, Same-of, Same-mul}
 use Rattle.exact.specs.Matrices.Test.{same-by}
 use Rattle.exact.specs.Matrices.Words.{word-append}
 use Rattle.exact.specs.Matrices.Triples.{act, acts, unitary-same, unitary-act}
 use Rattle.exact.specs.Matrices.Least.{reducedTest, reduced-test, lowest, lowered, lowered-same, Reduces, reduce, reduce-reduces, answer-unique}
-use Rattle.synthesis_of_clifford_t.specs.Residues.{odds, opposite, back, powerBy-few, powerOf, fallsOf, agreeing, differing, stays-class, one-class, class-0000, class-0001}
+use Rattle.synthesis_of_clifford_t.specs.Residues.{odds, opposite, back, powerBy-few, powerOf, fallsOf, agreeing, differing, stays-class, one-class, four-classes, class-0000, class-0001}
 
 pub record Ready (t : Triple) : Type 0 where
   pub unitary : Unitary t
@@ -120,3 +121,242 @@ at-most-one m t y h r s = omega (arith, r .least .least (word (block m) · y) (S
 -- the next triple is the only one that is reduced, has n below 8 and that matrix
 pub next-by : {t : Triple} (s : Triple) → Unitary t → Reduced s → s .n < 8 → Same (entries s) (entries (raised t)) → next t ≡ s
 next-by {t} s u r n h = answer-unique (next-ready u .unitary) (next-ready u .reduced) r (next-n t) n (Same-trans (next-reduces t .same) (Same-sym h))
+
+-- ---- H·T^-m in coefficients: z + w' and z - w', where w' is omega^-m·w, with the exponent one up
+abbrev pub explicit : ℕ → Triple → Triple
+explicit m t = record { k = suc (t .k); n = t .n + (8 - m) + 4; z = addQ ints (t .z) (back m (t .w)); w = addQ ints (t .z) (negQ ints (back m (t .w))) }
+
+turned : (j : ℕ) (t : Triple) → actAll (times j T′) t ≡ record { k = t .k; n = t .n + j; z = t .z; w = mulQ ints (omega^ j) (t .w) }
+turned zero t = λ i. record { k = t .k; n = sym (add-zero (t .n)) i; z = t .z; w = sym (omegas-laws .one-mul (t .w)) i }
+turned (suc j) t =
+    ap (act T′) (turned j t)
+    ∙ (λ i. record { k = t .k; n = more i; z = t .z; w = sym (omegas-laws .mul-assoc (omega^ 1) (omega^ j) (t .w)) i })
+  where
+    more : t .n + j + 1 ≡ t .n + suc j
+    more = omega arith
+
+pub undone : (m : ℕ) (t : Triple) → actAll (undo m) t ≡ explicit m t
+unfolding back
+undone m t = ap (act H) (turned (8 - m) t)
+
+-- ---- parities of a sum and a difference
+abbrev pub every : Bool → Quad Bool
+every b = record { a = b; b = b; c = b; d = b }
+
+module _ (x y : Ω) where
+  sum-odds : odds (addQ ints x y) ≡ record { a = xr (odd (x .a)) (odd (y .a)); b = xr (odd (x .b)) (odd (y .b)); c = xr (odd (x .c)) (odd (y .c)); d = xr (odd (x .d)) (odd (y .d)) }
+  sum-odds = quad-path (odd-add (x .a) (y .a)) (odd-add (x .b) (y .b)) (odd-add (x .c) (y .c)) (odd-add (x .d) (y .d))
+
+  difference-odds : odds (addQ ints x (negQ ints y)) ≡ odds (addQ ints x y)
+  difference-odds =
+      quad-path (odd-sub (x .a) (y .a)) (odd-sub (x .b) (y .b)) (odd-sub (x .c) (y .c)) (odd-sub (x .d) (y .d)) ∙ sym sum-odds
+
+  agree-even : odds x ≡ odds y → odds (addQ ints x y) ≡ every false
+  agree-even e =
+      sum-odds
+      ∙ ap (λ p. record { a = xr (p .a) (odd (y .a)); b = xr (p .b) (odd (y .b)); c = xr (p .c) (odd (y .c)); d = xr (p .d) (odd (y .d)) }) e
+      ∙ quad-path (xr-self (odd (y .a))) (xr-self (odd (y .b))) (xr-self (odd (y .c))) (xr-self (odd (y .d)))
+
+  differ-odd : opposite (odds x) ≡ odds y → odds (addQ ints x y) ≡ every true
+  differ-odd e =
+      sum-odds
+      ∙ ap (λ p. record { a = xr (odd (x .a)) (p .a); b = xr (odd (x .b)) (p .b); c = xr (odd (x .c)) (p .c); d = xr (odd (x .d)) (p .d) }) (sym e)
+      ∙ quad-path (xr-not (odd (x .a))) (xr-not (odd (x .b))) (xr-not (odd (x .c))) (xr-not (odd (x .d)))
+    where
+      xr-not : (b : Bool) → xr b (not b) ≡ true
+      xr-not true = refl
+      xr-not false = refl
+
+-- ---- what root two divides
+untrue : {b : Bool} → b ≡ false → T (not b)
+untrue e = rw e tt
+
+divides-by : (x : Ω) → odd (x .b +ℤ x .d) ≡ false → odd (x .c +ℤ x .a) ≡ false → T (divides x)
+divides-by x e f = yes-and (not (odd (x .b +ℤ x .d))) (not (odd (x .c +ℤ x .a))) (untrue e) (untrue f)
+
+module _ (x : Ω) where
+  -- all of one parity
+  alike-divides : (b : Bool) → odds x ≡ every b → T (divides x)
+  alike-divides b e =
+      divides-by x
+      (odd-add (x .b) (x .d) ∙ ap₂ xr (ap (λ q. q .b) e) (ap (λ q. q .d) e) ∙ xr-self b)
+      (odd-add (x .c) (x .a) ∙ ap₂ xr (ap (λ q. q .c) e) (ap (λ q. q .a) e) ∙ xr-self b)
+
+  -- the sums of the quotient's coefficients
+  over-sums : T (divides x) → (odd (over x .b +ℤ over x .d) ≡ odd (x .c)) × (odd (over x .c +ℤ over x .a) ≡ odd (x .b))
+  over-sums t =
+      let s = even-sums x t in
+      (ap odd (half-plus (x .c) (x .a) (s .1)), ap odd (half-plus (x .b) (x .d) (s .0)))
+
+  even-divides-again : odds x ≡ every false → T (divides (over x))
+  even-divides-again e =
+      let s = over-sums (alike-divides false e) in
+      divides-by (over x) (s .0 ∙ ap (λ q. q .c) e) (s .1 ∙ ap (λ q. q .b) e)
+
+  -- all odd: the quotient's class is not 0001
+  odd-over : odds x ≡ every true → residue (norm (over x)) ≡ 0b0001 → ⊥
+  odd-over e f =
+      let s = over-sums (alike-divides true e) in
+      told (ap₂ xr (s .0 ∙ ap (λ q. q .c) e) (s .1 ∙ ap (λ q. q .b) e)) (class-0001 (over x) f)
+    where
+      told : {b : Bool} → b ≡ false → T b → ⊥
+      told e t = rw e at t
+
+  -- divided twice is halved
+  pub over-over : T (divides x) → over (over x) ≡ record { a = half (x .a); b = half (x .b); c = half (x .c); d = half (x .d) }
+  over-over t =
+      let s = even-sums x t in
+      quad-path (ap half (half-minus (x .c) (x .a) (s .1))) (ap half (half-plus (x .b) (x .d) (s .0))) (ap half (half-plus (x .c) (x .a) (s .1))) (ap half (half-minus (x .b) (x .d) (s .0)))
+
+-- ---- a matrix that can be written two exponents lower has even entries
+module _ (x y : Matrix) (h : Same x y) where
+  multiple : (j : ℕ) → x .e ≡ y .e + j → x .m ≡ lifted j (y .m)
+  multiple j e = lifted-cancel (y .e) (x .m) (lifted j (y .m)) (h .same ∙ ap (λ c. scaleM omegas c (y .m)) (ap root2^ e ∙ root2^-add (y .e) j) ∙ scale-scale omegas omegas-laws (root2^ (y .e)) (root2^ j) (y .m))
+
+  pub two-lower : y .e + 2 ≤ x .e → odds (x .m .p) ≡ every false
+  two-lower l =
+      ap odds
+      (ap (λ m. m .p) (multiple (suc (suc j)) split)
+      ∙ ring₃ omegas omegas-laws (λ r q p. r ⊗ (r ⊗ q) ⊗ p) (λ r q p. r ⊗ (r ⊗ (q ⊗ p))) tt (root2 ints) (root2^ j) (y .m .p)
+      ∙ twice (mulQ ints (root2^ j) (y .m .p)))
+      ∙ agree-even (mulQ ints (root2^ j) (y .m .p)) (mulQ ints (root2^ j) (y .m .p)) refl
+    where
+      j : ℕ
+      j = x .e - (y .e + 2)
+
+      split : x .e ≡ y .e + suc (suc j)
+      split = omega arith
+
+      twice : (v : Ω) → mulQ ints (root2 ints) (mulQ ints (root2 ints) v) ≡ addQ ints v v
+      twice v = solveQ ints ints-laws (parts v []) (mulQ exprs (root2 exprs) (mulQ exprs (root2 exprs) X₀)) (addQ exprs X₀ X₀) (tt, tt, tt, tt)
+
+-- ---- n from 0 to 7
+abbrev smallN : Triple → Triple
+smallN t = record { k = t .k; n = t .n % 8; z = t .z; w = t .w }
+
+smallN-same : (t : Triple) → entries (smallN t) ≡ entries t
+smallN-same t = ap (λ u. record { m = rows ints (t .z) (t .w) u; e = t .k }) (sym (omega^-mod (t .n)))
+
+-- ---- k falls by one or stays
+abbrev pub fallen : ℕ → Triple → Triple
+fallen k t = let x = explicit (power t) t in record { k = k; n = x .n % 8; z = over (over (x .z)); w = over (over (x .w)) }
+
+abbrev pub stayed : Triple → Triple
+stayed t = let x = explicit (power t) t in record { k = t .k; n = x .n % 8; z = over (x .z); w = over (x .w) }
+
+module _ (t : Triple) (k : ℕ) (ready : Ready t) (e : t .k ≡ suc k) where
+  abbrev w′ : Ω
+  w′ = back (power t) (t .w)
+
+  abbrev x : Triple
+  x = explicit (power t) t
+
+  -- root two does not divide both
+  some : T (not (divides (t .z) && divides (t .w)))
+  some = rw e at (reduced-test t (ready .reduced))
+
+  pub classes : residue (norm (t .z)) ≡ residue (norm (t .w))
+  classes = one-class t k (ready .unitary) e
+
+  -- the residues that document 01 rules out
+  pub no-0000 : residue (norm (t .z)) ≡ 0b0000 → ⊥
+  no-0000 f = clash (divides (t .z)) (divides (t .w)) (class-0000 (t .z) f) (class-0000 (t .w) (sym classes ∙ f)) some
+    where
+      clash : (a b : Bool) → T a → T b → T (not (a && b)) → ⊥
+      clash true true s t u = u
+      clash true false s t u = t
+      clash false b s t u = s
+
+  pub not-1011 : residue (norm (t .z)) ≡ 0b1011 → ⊥
+  not-1011 = no-1011 (t .z)
+
+  -- so it is 1010 or 0001, and at 1010 k falls
+  pub no-other : (residue (norm (t .z)) ≡ 0b1010 → ⊥) → (residue (norm (t .z)) ≡ 0b0001 → ⊥) → ⊥
+  no-other f g = four-classes (t .z) no-0000 g f not-1011
+
+  pub class-1010-falls : residue (norm (t .z)) ≡ 0b1010 → falls t ≡ true
+  class-1010-falls f = go (falls t) refl
+    where
+      go : (b : Bool) → falls t ≡ b → b ≡ true
+      go true g = refl
+      go false g = let c : _≡_ {A = ℕ} 10 1 = sym f ∙ stays-class (t .z) (t .w) classes some g in absurd (omega arith)
+
+  both : (y z : Ω) → T (divides y) → T (divides z) → T (divides y && divides z)
+  both y z = yes-and (divides y) (divides z)
+
+  x-same : Same (entries (raised t)) (entries x)
+  x-same = Same-of (ap entries (undone (power t) t))
+
+  -- a matrix that is the next one has no lower exponent than k
+  floor : (y : Matrix) → Same (entries x) y → k ≤ y .e
+  floor y h = omega (arith, at-most-one (power t) t y (power-few t) (ready .reduced) (Same-trans x-same h))
+
+  module _ (f : falls t ≡ true) where
+    z-even : odds (x .z) ≡ every false
+    z-even = agree-even (t .z) w′ (agreeing (t .z) (t .w) classes some f)
+
+    w-even : odds (x .w) ≡ every false
+    w-even = difference-odds (t .z) w′ ∙ z-even
+
+    pub falls-once : T (divides (x .z) && divides (x .w))
+    falls-once = both (x .z) (x .w) (alike-divides (x .z) false z-even) (alike-divides (x .w) false w-even)
+
+    pub falls-twice : T (divides (over (x .z)) && divides (over (x .w)))
+    falls-twice = both (over (x .z)) (over (x .w)) (even-divides-again (x .z) z-even) (even-divides-again (x .w) w-even)
+
+    fallen-same : Same (entries (fallen k t)) (entries x)
+    fallen-same =
+        Same-trans (Same-of (smallN-same (lowered k (lowered (suc k) x))))
+        (Same-trans (lowered-same k (lowered (suc k) x) refl falls-twice) (lowered-same (suc k) x (ap suc e) falls-once))
+
+    pub fallen-reduced : Reduced (fallen k t)
+    fallen-reduced = record { least = record { written = entries (fallen k t) .m; same = Same-refl (entries (fallen k t)); least = λ y h. floor y (Same-trans (Same-sym fallen-same) h) } }
+
+    pub next-falls : next t ≡ fallen k t
+    next-falls = next-by (fallen k t) (ready .unitary) fallen-reduced (omega arith) (Same-trans fallen-same (Same-sym x-same))
+
+  module _ (f : falls t ≡ false) where
+    z-odd : odds (x .z) ≡ every true
+    z-odd = differ-odd (t .z) w′ (differing (t .z) (t .w) classes some f)
+
+    w-odd : odds (x .w) ≡ every true
+    w-odd = difference-odds (t .z) w′ ∙ z-odd
+
+    pub stays-once : T (divides (x .z) && divides (x .w))
+    stays-once = both (x .z) (x .w) (alike-divides (x .z) true z-odd) (alike-divides (x .w) true w-odd)
+
+    stayed-same : Same (entries (stayed t)) (entries x)
+    stayed-same = Same-trans (Same-of (smallN-same (lowered (t .k) x))) (lowered-same (t .k) x refl stays-once)
+
+    pub stayed-reduced : Reduced (stayed t)
+    stayed-reduced =
+        record { least = record { written = entries (stayed t) .m; same = Same-refl (entries (stayed t)); least = λ y h. above y (Same-trans (Same-sym stayed-same) h) } }
+      where
+        above : (y : Matrix) → Same (entries x) y → t .k ≤ y .e
+        above y h = omega (arith, e, clash)
+          where
+            clash : y .e < t .k → ⊥
+            clash l = false-true (sym (ap (λ q. q .a) (two-lower (entries x) y h (omega arith))) ∙ ap (λ q. q .a) z-odd)
+
+    pub next-stays : next t ≡ stayed t
+    next-stays = next-by (stayed t) (ready .unitary) stayed-reduced (omega arith) (Same-trans stayed-same (Same-sym x-same))
+
+-- after a step that keeps k it falls
+pub then-falls : (t : Triple) (k : ℕ) → Ready t → t .k ≡ suc k → falls t ≡ false → falls (next t) ≡ true
+then-falls t k ready e f = go (falls (next t)) refl
+  where
+    s : Triple
+    s = next t
+
+    is : s ≡ stayed t
+    is = next-stays t k ready e f
+
+    k-is : s .k ≡ suc k
+    k-is = ap (λ r. r .k) is ∙ e
+
+    go : (b : Bool) → falls s ≡ b → b ≡ true
+    go true g = refl
+    go false g =
+        absurd
+        (odd-over (explicit (power t) t .z) (z-odd t k ready e f)
+        (ap (λ r. residue (norm (r .z))) (sym is) ∙ stays-class (s .z) (s .w) (classes s k (next-ready (ready .unitary)) k-is) (some s k (next-ready (ready .unitary)) k-is) g))
