@@ -1,3 +1,4 @@
 -- Synthesis: the step that document 01 describes, why it ends, what it writes and how much. Proofs over the definitions of `exact`.
 pub mod Residues
 pub mod Step
+pub mod Closing

@@ -126,7 +126,7 @@ next-by {t} s u r n h = answer-unique (next-ready u .unitary) (next-ready u .red
 abbrev pub explicit : ℕ → Triple → Triple
 explicit m t = record { k = suc (t .k); n = t .n + (8 - m) + 4; z = addQ ints (t .z) (back m (t .w)); w = addQ ints (t .z) (negQ ints (back m (t .w))) }
 
-turned : (j : ℕ) (t : Triple) → actAll (times j T′) t ≡ record { k = t .k; n = t .n + j; z = t .z; w = mulQ ints (omega^ j) (t .w) }
+pub turned : (j : ℕ) (t : Triple) → actAll (times j T′) t ≡ record { k = t .k; n = t .n + j; z = t .z; w = mulQ ints (omega^ j) (t .w) }
 turned zero t = λ i. record { k = t .k; n = sym (add-zero (t .n)) i; z = t .z; w = sym (omegas-laws .one-mul (t .w)) i }
 turned (suc j) t =
     ap (act T′) (turned j t)
