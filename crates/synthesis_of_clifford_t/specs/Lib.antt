@@ -2,3 +2,4 @@
 pub mod Residues
 pub mod Step
 pub mod Closing
+pub mod Steps
