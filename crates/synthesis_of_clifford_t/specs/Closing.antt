@@ -305,7 +305,7 @@ unfolding closing
 closing-is t u e = finish t (lead t) (swaps t) (quarters t) (phase t) e refl (phase-few t u e) refl (left-over t (last t u e))
 
 -- ---- how many letters
-length-times : (n : ℕ) (l : Letter) → length (times n l) ≡ n
+pub length-times : (n : ℕ) (l : Letter) → length (times n l) ≡ n
 length-times zero l = refl
 length-times (suc n) l = ap suc (length-times n l)
 

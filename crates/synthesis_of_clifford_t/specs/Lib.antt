@@ -3,3 +3,4 @@ pub mod Residues
 pub mod Step
 pub mod Closing
 pub mod Steps
+pub mod Counts
