@@ -4,3 +4,5 @@ pub mod Step
 pub mod Closing
 pub mod Steps
 pub mod Counts
+pub mod Synthesised
+pub mod Tees

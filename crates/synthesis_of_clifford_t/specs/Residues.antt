@@ -5,7 +5,7 @@ use mathlib.Core.Bool.{Bool, true, false, not, cond, _&&_, _||_}
 use mathlib.Core.List.{List, [], _∷_}
 use Prim.Native.Nat.{ℕ, zero, suc, _+_, _-_, _*_, _^_, _%_, _<_}
 use native.Mathlib.Omega.{arith}
-use borrow.Author.Tests.{ltb-true, ne-eqb}
+use borrow.Author.Tests.{ltb-true, le-ltb, ne-eqb}
 use lib.Dec.{T, eqb, ltb, eqb→eq, ltb→lt, eqb-refl}
 use lib.ListN.{getD}
 use lib.IntN.{ℤ, pos, negℤ, _+ℤ_}
@@ -125,6 +125,13 @@ lessBy-few p q hp hq = go (ltb q p) refl
 pub powerBy-few : (r s : ℕ) → powerBy r s < 4
 unfolding powerBy
 powerBy-few r s = lessBy-few (bitShift r) (bitShift s) (entry-below 4 bitShifts tt r) (entry-below 4 bitShifts tt s)
+
+pub itself : (r : ℕ) → powerBy r r ≡ 0
+unfolding powerBy
+itself r = go (bitShift r)
+  where
+    go : (p : ℕ) → lessBy p p ≡ 0
+    go p = rw (le-ltb p p (omega arith)) (omega arith)
 
 -- ---- omega^-m times a ring number
 unfoldable pub back : ℕ → Ω → Ω
