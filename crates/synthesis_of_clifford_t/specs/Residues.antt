@@ -224,7 +224,7 @@ four-classes x f g h k = go (odd (crosses ints x)) (odd (squares ints x)) (class
 even-power : (k : ℕ) → odd (pos (2 ^ suc k)) ≡ false
 even-power k = ne-eqb (2 ^ suc k % 2) 1 (λ e. omega arith)
 
-even-sum : (a b c : ℤ) → a +ℤ b ≡ c → odd c ≡ false → odd a ≡ odd b
+pub even-sum : (a b c : ℤ) → a +ℤ b ≡ c → odd c ≡ false → odd a ≡ odd b
 even-sum a b c e f = alike (odd a) (odd b) (sym (odd-add a b) ∙ ap odd e ∙ f)
   where
     alike : (p q : Bool) → xr p q ≡ false → p ≡ q

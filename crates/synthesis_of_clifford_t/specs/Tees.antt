@@ -23,7 +23,7 @@ use Rattle.exact.specs.Rotation.Vectors.{Vect}
 use Rattle.exact.specs.Rotation.Parity.{Par, par, none, sOf, pturnL, pturn, Seen, fewest, same-count}
 use Rattle.exact.specs.Unique.Tails.{e₁, tees-append}
 use Rattle.exact.specs.Unique.Normal.{normal-seen, normal-fewest}
-use Rattle.synthesis_of_clifford_t.specs.Residues.{odds, powerBy, itself}
+use Rattle.synthesis_of_clifford_t.specs.Residues.{odds, powerBy, itself, even-sum}
 use Rattle.synthesis_of_clifford_t.specs.Step.{Ready, block, power, power-few, falls, next, next-ready, step-same, every, two-lower, next-falls, next-stays, then-falls}
 use Rattle.synthesis_of_clifford_t.specs.Closing.{closing, lead, swaps, quarters, phase}
 use Rattle.synthesis_of_clifford_t.specs.Steps.{by-steps, letters, letters-end, letters-more, letters-same}
@@ -41,13 +41,7 @@ power-0 : (t : Triple) → odds (addQ ints (t .z) (t .w)) ≡ every false → po
 power-0 t e = ap (λ r. powerBy r (residue (t .w))) same-residue ∙ itself (residue (t .w))
   where
     alike : (a b : ℤ) → odd (a +ℤ b) ≡ false → odd a ≡ odd b
-    alike a b f = go (odd a) (odd b) (sym (odd-add a b) ∙ f)
-      where
-        go : (p q : Bool) → xr p q ≡ false → p ≡ q
-        go true true g = refl
-        go true false g = g
-        go false true g = sym g
-        go false false g = refl
+    alike a b f = even-sum a b (a +ℤ b) refl f
 
     odds-same : odds (t .z) ≡ odds (t .w)
     odds-same =
@@ -114,3 +108,115 @@ module _ (t : Triple) (k j : ℕ) (r : Ready t) (e : t .k ≡ suc k) (f : next t
           (Same-trans (Same-mul (Same-refl (letter H)) (Same-sym two))
           (Same-trans (Same-of (sym (mul-assoc (letter H) (word (S ∷ H ∷ S ∷ H ∷ [])) (entries (next (next t))))))
           (Same-mul (same-by (word (H ∷ S ∷ H ∷ S ∷ H ∷ [])) (word (S ∷ S ∷ S ∷ W ∷ [])) tt) (Same-refl (entries (next (next t)))))))
+
+-- ---- parities that show every T
+-- a T leaves the first, SH after it the second
+abbrev afterT : Par
+afterT = record { x = true; y = true; z = false }
+
+abbrev afterS : Par
+afterS = record { x = true; y = false; z = true }
+
+data Bright (t : Triple) : Type 0 where
+  by-T : (at : Vect ℤ) → pturn (letters t) (par at) ≡ afterT → Bright t
+  by-S : (at : Vect ℤ) → pturn (letters t) (par at) ≡ afterS → 0 < t .k → power t ≡ 2 → Bright t
+  by-H : (at : Vect ℤ) → (pturn (letters t) (par at) ≡ none → ⊥) → 0 < t .k → power t ≡ 0 → Bright t
+
+pturn-append : (u v : List Letter) (a : Par) → pturn (u ++ v) a ≡ pturn u (pturn v a)
+pturn-append [] v a = refl
+pturn-append (l ∷ u) v a = ap (pturnL l) (pturn-append u v a)
+
+-- ---- the closing letters
+x-still : (n : ℕ) (a : Par) → pturn (times n X) a ≡ a
+x-still zero a = refl
+x-still (suc n) a = x-still n a
+
+w-still : (n : ℕ) (a : Par) → pturn (times n W) a ≡ a
+w-still zero a = refl
+w-still (suc n) a = w-still n a
+
+s-afterT : (n : ℕ) → pturn (times n S) afterT ≡ afterT
+s-afterT zero = refl
+s-afterT (suc n) = ap (pturnL S) (s-afterT n)
+
+s-sum : (n : ℕ) (a : Par) → sOf (pturn (times n S) a) ≡ sOf a
+s-sum zero a = refl
+s-sum (suc n) a = xr-comm (pturn (times n S) a .y) (pturn (times n S) a .x) ∙ s-sum n a
+
+tail-turn : (q s m : ℕ) (a : Par) → pturn (times q X ++ (times s S ++ times m W)) a ≡ pturn (times s S) a
+tail-turn q s m a =
+    pturn-append (times q X) (times s S ++ times m W) a
+    ∙ x-still q (pturn (times s S ++ times m W) a)
+    ∙ pturn-append (times s S) (times m W) a
+    ∙ ap (pturn (times s S)) (w-still m a)
+
+-- (1,1,0)
+both-axes : Vect ℤ
+both-axes = record { x = record { p = pos 1; q = pos 0 }; y = record { p = pos 1; q = pos 0 }; z = record { p = pos 0; q = pos 0 } }
+
+record Shows (u : List Letter) : Type 0 where
+  at : Vect ℤ
+  shown : pturn u (par at) ≡ afterT
+
+closing-shows : (t : Triple) → Shows (closing t)
+unfolding closing both-axes
+closing-shows t = go (lead t) (swaps t) (quarters t) (phase t) (omega arith)
+  where
+    go : (p q s m : ℕ) → p < 2 → Shows (times p T′ ++ (times q X ++ (times s S ++ times m W)))
+    go zero q s m h = record { at = both-axes; shown = tail-turn q s m (par both-axes) ∙ s-afterT s }
+    go (suc zero) q s m h = record { at = e₁; shown = ap (λ b. record { x = b; y = b; z = false }) (ap sOf (tail-turn q s m (par e₁)) ∙ s-sum s (par e₁)) }
+    go (suc (suc p)) q s m h = absurd (omega arith)
+
+-- ---- the steps
+module _ (t : Triple) (k : ℕ) (r : Ready t) (e : t .k ≡ suc k) where
+  over : (m : ℕ) (at : Vect ℤ) (a : Par) → power t ≡ m → pturn (letters (next t)) (par at) ≡ a → pturn (letters t) (par at) ≡ pturn (block m) a
+  over m at a g h =
+      ap (λ u. pturn u (par at)) (letters-more t k r e)
+      ∙ pturn-append (block (power t)) (letters (next t)) (par at)
+      ∙ ap₂ (λ n b. pturn (block n) b) g h
+
+  later : 0 < next t .k → next t .k ≡ suc (next t .k - 1)
+  later h = omega arith
+
+  on-T : (m : ℕ) (at : Vect ℤ) → power t ≡ m → m < 4 → pturn (letters (next t)) (par at) ≡ afterT → Bright t
+  on-T zero at g l h = by-H at (λ n. false-true (sym (ap (λ a. a .y) n) ∙ ap (λ a. a .y) (over 0 at afterT g h))) (omega arith) g
+  on-T (suc zero) at g l h = by-T at (over 1 at afterT g h)
+  on-T (suc (suc zero)) at g l h = by-S at (over 2 at afterT g h) (omega arith) g
+  on-T (suc (suc (suc zero))) at g l h = by-T at (over 3 at afterT g h)
+  on-T (suc (suc (suc (suc m)))) at g l h = absurd (omega arith)
+
+  on-S : (m : ℕ) (at : Vect ℤ) → power t ≡ m → m < 4 → pturn (letters (next t)) (par at) ≡ afterS → 0 < next t .k → power (next t) ≡ 2 → Bright t
+  on-S zero at g l h i j = by-H at (λ n. false-true (sym (ap (λ a. a .x) n) ∙ ap (λ a. a .x) (over 0 at afterS g h))) (omega arith) g
+  on-S (suc zero) at g l h i j = by-T at (over 1 at afterS g h)
+  on-S (suc (suc zero)) at g l h i j = absurd (not-2-2 t k (next t .k - 1) r e (later i) g j)
+  on-S (suc (suc (suc zero))) at g l h i j = by-T at (over 3 at afterS g h)
+  on-S (suc (suc (suc (suc m)))) at g l h i j = absurd (omega arith)
+
+  step-bright : Bright (next t) → Bright t
+  step-bright (by-T at h) = on-T (power t) at refl (power-few t) h
+  step-bright (by-S at h i j) = on-S (power t) at refl (power-few t) h i j
+  step-bright (by-H at h i j) = absurd (then-not-0 t k (next t .k - 1) r e (later i) j)
+
+letters-bright : (t : Triple) → Ready t → Bright t
+letters-bright =
+    by-steps Bright
+    (λ t r e. let s = closing-shows t in by-T (s .at) (ap (λ u. pturn u (par (s .at))) (letters-end t e) ∙ s .shown))
+    (λ t k r e b. step-bright t k r e b)
+
+pub letters-seen : (t : Triple) → Ready t → Seen (letters t)
+letters-seen t r = go (letters-bright t r)
+  where
+    go : Bright t → Seen (letters t)
+    go (by-T at h) = record { at = at; odd-there = λ n. false-true (sym (ap (λ a. a .x) n) ∙ ap (λ a. a .x) h) }
+    go (by-S at h i j) = record { at = at; odd-there = λ n. false-true (sym (ap (λ a. a .x) n) ∙ ap (λ a. a .x) h) }
+    go (by-H at h i j) = record { at = at; odd-there = h }
+
+-- ---- the T letters before normalising are those of the answer
+pub tees-kept : (t : Triple) (v : List Letter) → Ready t → Normal v → Same (word v) (entries t) → tees (letters t) ≡ tees v
+tees-kept t v r n h = same-count (letters t) v (Same-trans (letters-same t r) (Same-sym h)) (letters-seen t r) (normal-seen n)
+
+-- and so for each beginning of the letters: reading one more T never takes a T away
+pub beginning-kept : (t : Triple) (u v n : List Letter) → Ready t → letters t ≡ u ++ v → Normal n → Same (word n) (word u) → tees n ≡ tees u
+beginning-kept t u v n r e m h =
+    omega (arith, normal-fewest u (Same-sym h) m, ap tees e, tees-append u v, tees-append n v,
+      fewest (n ++ v) (letters t) (Same-trans (Same-append n u v v h (Same-refl (word v))) (Same-of (ap word (sym e)))) (letters-seen t r))
