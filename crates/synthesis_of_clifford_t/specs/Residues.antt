@@ -3,9 +3,9 @@
 use mathlib.Core.Path.{_≡_, refl, sym, _∙_, ap, ap₂}
 use mathlib.Core.Bool.{Bool, true, false, not, cond, _&&_, _||_}
 use mathlib.Core.List.{List, [], _∷_}
-use Prim.Native.Nat.{ℕ, zero, suc, _+_, _-_, _*_, _^_, _%_, _<_}
+use Prim.Native.Nat.{ℕ, zero, suc, _+_, _-_, _*_, _^_, _%_, _≤_, _<_}
 use native.Mathlib.Omega.{arith}
-use borrow.Author.Tests.{ltb-true, le-ltb, ne-eqb}
+use borrow.Author.Tests.{ltb-true, lt-ltb, le-ltb, ne-eqb}
 use lib.Dec.{T, eqb, ltb, eqb→eq, ltb→lt, eqb-refl}
 use lib.ListN.{getD}
 use lib.IntN.{ℤ, pos, negℤ, _+ℤ_}
@@ -122,9 +122,22 @@ lessBy-few p q hp hq = go (ltb q p) refl
     go true e = omega (arith, ltb-true q p e)
     go false e = omega arith
 
+pub bitShift-few : (r : ℕ) → bitShift r < 4
+bitShift-few = entry-below 4 bitShifts tt
+
 pub powerBy-few : (r s : ℕ) → powerBy r s < 4
 unfolding powerBy
-powerBy-few r s = lessBy-few (bitShift r) (bitShift s) (entry-below 4 bitShifts tt r) (entry-below 4 bitShifts tt s)
+powerBy-few r s = lessBy-few (bitShift r) (bitShift s) (bitShift-few r) (bitShift-few s)
+
+-- the two cases, as the code takes them
+module _ (r s p q : ℕ) (hp : p ≡ bitShift r) (hq : q ≡ bitShift s) where
+  pub power-less : q < p → q + 4 - p ≡ powerBy r s
+  unfolding powerBy
+  power-less h = sym (rw (← hp, ← hq, lt-ltb q p h) refl)
+
+  pub power-not-less : p ≤ q → q - p ≡ powerBy r s
+  unfolding powerBy
+  power-not-less h = sym (rw (← hp, ← hq, le-ltb q p h) refl)
 
 pub itself : (r : ℕ) → powerBy r r ≡ 0
 unfolding powerBy
