@@ -332,3 +332,30 @@ closing-tees t = go (lead t) (swaps t) (quarters t) (phase t)
   where
     go : (p q s m : ℕ) → tees (times p T′ ++ (times q X ++ (times s S ++ times m W))) ≡ p
     go p q s m = simp tees-append (omega (arith, times-tees p, none-tees X refl q, none-tees S refl s, none-tees W refl m))
+
+-- ---- as the code takes it
+-- m is the power that equals the number that is left
+pub which-at : (m : ℕ) → m < 8 → which (omega^ m) ≡ m
+which-at m h = which-omega^ m ∙ small
+  where
+    small : m % 8 ≡ m
+    small = omega arith
+
+pub quarters-few : (t : Triple) → quarters t < 4
+quarters-few t = omega arith
+
+-- n with each letter taken off modulo 8: 7 more for the T, 4 more for the X, 2·(8-m) more for the W
+pub quarters-by : (n p q m : ℕ) → p ≡ n % 2 → m < 8 → (((n + 7 * p) % 8 + 4 * q) % 8 + 2 * (8 - m)) % 8 / 2 ≡ (n + 4 * q + 16 - (p + 2 * m)) % 8 / 2
+quarters-by n p q m e h = ap (λ x. x / 2) (mod-8 ((a + 4 * q) % 8 + 2 * (8 - m)) (n + 4 * q + 16 - (p + 2 * m)) (b / 8 + (n + 7 * p) / 8) p (omega (arith, part-a, part-b)))
+  where
+    a : ℕ
+    a = (n + 7 * p) % 8
+
+    b : ℕ
+    b = a + 4 * q
+
+    part-a : a + 8 * ((n + 7 * p) / 8) ≡ n + 7 * p
+    part-a = omega arith
+
+    part-b : b % 8 + 8 * (b / 8) ≡ b
+    part-b = omega arith

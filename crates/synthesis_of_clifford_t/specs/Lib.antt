@@ -6,3 +6,5 @@ pub mod Steps
 pub mod Counts
 pub mod Synthesised
 pub mod Tees
+pub mod Loop
+pub mod Cases
