@@ -1,13 +1,13 @@
 -- The letters and steps of some triples, as one computed table: document 01's cases before normalising, the two that are written reduced by many
 -- exponents, the longest closing, and words that come back as they were. Assumes nothing.
-use mathlib.Core.Path.{_≡_, refl}
-use mathlib.Core.Bool.{Bool, true, false, _&&_}
+use mathlib.Core.Path.{_≡_}
+use mathlib.Core.Bool.{Bool, true, _&&_}
 use mathlib.Core.List.{List, [], _∷_}
 use Prim.Native.Nat.{ℕ, _^_}
 use lib.Dec.{T, eqb, eqb→eq}
 use lib.IntN.{ℤ, pos, negsuc}
 use mir.Facts.{and-yes}
-use Rattle.exact.specs.Meaning.Number.{Quad, Ω}
+use Rattle.exact.specs.Meaning.Number.{Ω}
 use Rattle.exact.specs.Meaning.Word.{Letter, H, S, X, W, T′}
 use Rattle.exact.specs.Meaning.Triple.{Triple}
 use Rattle.exact.specs.Cases.Letters.{eqWord, eqWord-is}

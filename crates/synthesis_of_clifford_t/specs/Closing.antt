@@ -1,30 +1,27 @@
 -- The end of synthesis, k = 0: z or w is a power of omega and the other is 0, and the triple is spelled by at most one T, at most one X, S at most
 -- 3 times and W at most 7 times. Assumes nothing.
 use mathlib.Core.Path.{_≡_, refl, sym, _∙_, ap, ap₂}
-use mathlib.Core.Bool.{Bool, true, false, not, cond, _&&_}
+use mathlib.Core.Bool.{Bool, true, false, cond, _&&_}
 use mathlib.Core.List.{List, [], _∷_, _++_}
 use Prim.Native.Nat.{ℕ, zero, suc, _+_, _-_, _*_, _/_, _%_, _^_, _≤_, _<_}
 use native.Mathlib.Omega.{arith}
 use native.Mathlib.Nat.{le-mul-of-pos-right}
-use borrow.Author.Tests.{eqb-true, eqb-false}
 use lib.Dec.{T, eqb, eqb→eq}
 use lib.ListN.{length, length-append}
 use lib.IntN.{ℤ, pos, negsuc, natAbs, _+ℤ_, _*ℤ_}
 use mir.Facts.{and-yes}
-use Rattle.exact.specs.Meaning.Number.{Quad, Ω, ints, omegas, mulQ, constQ, conjQ, omega′, omega^}
-use Rattle.exact.specs.Meaning.Matrix.{Matrix, Same}
-use Rattle.exact.specs.Meaning.Word.{Letter, I, H, S, X, W, T′, word, tee, tees}
+use Rattle.exact.specs.Meaning.Number.{Ω, ints, omegas, mulQ, constQ, omega^}
+use Rattle.exact.specs.Meaning.Word.{Letter, S, X, W, T′, word, tee, tees}
 use Rattle.exact.specs.Meaning.Normal.{times}
 use Rattle.exact.specs.Meaning.Triple.{Triple, rows, squares, entries, Unitary}
 use Rattle.exact.specs.Whole.Parity.{false-true}
 use Rattle.exact.specs.Algebra.Solver.{con, _⊗_, ring₁}
 use Rattle.exact.specs.Algebra.Omega.{omegas-laws, quad-path}
 use Rattle.exact.specs.Algebra.OmegaPower.{which, which-omega^, omega^-mod, omega^-add}
-use Rattle.exact.specs.Matrices.Same.{Same-of, Same-trans}
 use Rattle.exact.specs.Matrices.Triples.{act, tripleOf, word-triple}
 use Rattle.exact.specs.Unique.Tails.{tees-append}
 use Rattle.synthesis_of_clifford_t.specs.Residues.{back}
-use Rattle.synthesis_of_clifford_t.specs.Step.{actAll, turned}
+use Rattle.synthesis_of_clifford_t.specs.Step.{actAll, turned, at-n, n-same}
 
 -- ---- the letters
 abbrev zeroZ : ℤ → Bool
@@ -197,13 +194,6 @@ spelled p q s m =
     ∙ ap (actAll (times p T′)) (act-append (times q X) (times s S ++ times m W) ∙ ap (actAll (times q X)) (act-append (times s S) (times m W) ∙ ap (actAll (times s S)) (ws-flat m) ∙ ss-flat s m (2 * m)))
 
 -- ---- the theorem
-abbrev at-n : Triple → ℕ → Triple
-at-n t n = record { k = t .k; n = n; z = t .z; w = t .w }
-
--- n counts modulo 8
-n-same : (t : Triple) (n : ℕ) → n % 8 ≡ t .n % 8 → entries (at-n t n) ≡ entries t
-n-same t n e = ap (λ u. record { m = rows ints (t .z) (t .w) u; e = t .k }) (omega^-mod n ∙ ap omega^ e ∙ sym (omega^-mod (t .n)))
-
 mod-8 : (a b x y : ℕ) → a + 8 * x ≡ b + 8 * y → a % 8 ≡ b % 8
 mod-8 a b x y e = omega (arith, quotients)
   where

@@ -1,15 +1,15 @@
 -- How many letters: before normalising at most 6k+12 of H, S, X, W and T, of which at most 2k+1 are T; and a normal word with that matrix has at most
 -- 6k+16. Assumes nothing.
-use mathlib.Core.Path.{_≡_, refl, sym, _∙_, ap, ap₂, subst}
+use mathlib.Core.Path.{ap}
 use mathlib.Core.Bool.{Bool, true, false}
 use mathlib.Core.List.{List, [], _∷_, _++_}
-use Prim.Native.Nat.{ℕ, zero, suc, _+_, _*_, _≤_, _<_}
+use Prim.Native.Nat.{ℕ, zero, suc, _+_, _*_, _≤_}
 use native.Mathlib.Omega.{arith}
 use lib.Dec.{T}
 use lib.ListN.{length, length-append}
 use Rattle.exact.specs.Meaning.Matrix.{Same}
-use Rattle.exact.specs.Meaning.Word.{Letter, I, H, S, X, W, T′, word, tee, tees, job3}
-use Rattle.exact.specs.Meaning.Normal.{Syllable, HT, SHT, Front, nothing, onlyH, onlySH, Tail, Shape, times, frontWord, tailWord, orI, after, leading, spell, Fits, Normal}
+use Rattle.exact.specs.Meaning.Word.{Letter, S, X, W, T′, word, tees, job3}
+use Rattle.exact.specs.Meaning.Normal.{Syllable, HT, SHT, Front, nothing, onlyH, onlySH, Tail, times, frontWord, tailWord, orI, after, leading, Fits, Normal}
 use Rattle.exact.specs.Meaning.Triple.{Triple, entries}
 use Rattle.exact.specs.Meaning.Limits.{deepest, enough}
 use Rattle.exact.specs.Matrices.Same.{Same-sym, Same-trans}
@@ -17,7 +17,7 @@ use Rattle.exact.specs.Unique.Tails.{tees-append}
 use Rattle.exact.specs.Unique.Normal.{normal-fewest}
 use Rattle.synthesis_of_clifford_t.specs.Step.{Ready, block, power, next}
 use Rattle.synthesis_of_clifford_t.specs.Closing.{closing, lead, swaps, quarters, phase, closing-length, closing-tees, length-times}
-use Rattle.synthesis_of_clifford_t.specs.Steps.{letters, steps, by-steps, letters-end, letters-more, letters-same, steps-end, steps-more, steps-few}
+use Rattle.synthesis_of_clifford_t.specs.Steps.{letters, steps, by-steps, letters-end, letters-more, letters-same, steps-more, steps-few}
 
 -- ---- before normalising
 pub block-length : (m : ℕ) → (1 ≤ length (block m)) × (length (block m) ≤ 3)

@@ -1,13 +1,13 @@
 -- What a loop over the steps keeps, from a reduced unitary triple s to the present one t with the letters u written in i steps: u and t's letters are
 -- s's letters, the steps add up, and three letters' room is left for each step that may come. Assumes nothing.
 use mathlib.Core.Path.{_≡_, refl, sym, _∙_, ap}
-use mathlib.Core.List.{List, [], _∷_, _++_, append-assoc}
-use Prim.Native.Nat.{ℕ, zero, suc, _+_, _-_, _*_, _≤_, _<_}
+use mathlib.Core.List.{List, [], _++_, append-assoc}
+use Prim.Native.Nat.{ℕ, suc, _+_, _*_, _≤_, _<_}
 use native.Mathlib.Nat.{zero-add}
 use native.Mathlib.Omega.{arith}
 use lib.ListN.{length, length-append}
 use Rattle.exact.specs.Meaning.Word.{Letter}
-use Rattle.exact.specs.Meaning.Triple.{Triple, Unitary, Reduced}
+use Rattle.exact.specs.Meaning.Triple.{Triple}
 use Rattle.synthesis_of_clifford_t.specs.Step.{Ready, block, power, next, next-ready, next-n}
 use Rattle.synthesis_of_clifford_t.specs.Closing.{closing, closing-length}
 use Rattle.synthesis_of_clifford_t.specs.Steps.{left, left-few, left-next, letters, letters-end, letters-more, steps, steps-end, steps-more}

@@ -1,7 +1,7 @@
 -- Residues in a step: document 01's two tables, m by them, and how the parities of z and of omega^-m·w lie then, by one computed test over all 256
 -- pairs of residues. Assumes nothing.
 use mathlib.Core.Path.{_≡_, refl, sym, _∙_, ap, ap₂}
-use mathlib.Core.Bool.{Bool, true, false, not, cond, _&&_, _||_}
+use mathlib.Core.Bool.{Bool, true, false, not, cond, _&&_}
 use mathlib.Core.List.{List, [], _∷_}
 use Prim.Native.Nat.{ℕ, zero, suc, _+_, _-_, _*_, _^_, _%_, _≤_, _<_}
 use native.Mathlib.Omega.{arith}
@@ -10,12 +10,12 @@ use lib.Dec.{T, eqb, ltb, eqb→eq, ltb→lt, eqb-refl}
 use lib.ListN.{getD}
 use lib.IntN.{ℤ, pos, negℤ, _+ℤ_}
 use mir.Facts.{and-yes, yes-and}
-use Rattle.exact.specs.Meaning.Number.{Quad, Ω, ints, omegas, quads, power, addQ, negQ, mulQ, omega′, omega^, odd, bit, residue}
+use Rattle.exact.specs.Meaning.Number.{Quad, Ω, ints, quads, power, mulQ, omega′, omega^, odd, bit, residue}
 use Rattle.exact.specs.Meaning.Triple.{Triple, squares, crosses, Unitary}
-use Rattle.exact.specs.Whole.Parity.{xr, odd-add, odd-sub, odd-neg}
+use Rattle.exact.specs.Whole.Parity.{xr, odd-add, odd-neg}
 use Rattle.exact.specs.Algebra.Ring.{ints-laws}
 use Rattle.exact.specs.Algebra.Solver.{Expr, ⊖, exprs}
-use Rattle.exact.specs.Algebra.Omega.{quad-path, omegas-laws, X₀, parts, solveQ}
+use Rattle.exact.specs.Algebra.Omega.{quad-path, X₀, parts, solveQ}
 use Rattle.exact.specs.Algebra.Norm.{norm, norm-is, norm-residue, normResidue, all-parities}
 use Rattle.exact.specs.Algebra.Over.{divides}
 
@@ -201,8 +201,8 @@ module _ (z w : Ω) (classes : residue (norm z) ≡ residue (norm w)) (some : T 
   chosen : (b : Bool) → fallsOf z w ≡ b → T (cond b (equal (odds z) (backOf (powerOf z w) (odds w))) (equal (opposite (odds z)) (backOf (powerOf z w) (odds w)) && eqb (classOf (odds z)) 0b0001))
   unfolding fallsBy powerBy
   chosen b e = rw e at (implied (eqb (classOf (odds z)) (classOf (odds w)) && not (dividesOf (odds z) && dividesOf (odds w))) (cond (eqb (bitCount (residueOf (odds z))) (bitCount (residueOf (odds w))))
-    (equal (odds z) (backOf (lessBy (bitShift (residueOf (odds z))) (bitShift (residueOf (odds w)))) (odds w)))
-    (equal (opposite (odds z)) (backOf (lessBy (bitShift (residueOf (odds z))) (bitShift (residueOf (odds w)))) (odds w)) && eqb (classOf (odds z)) 0b0001)) premise (all-pairs (odds z) (odds w)))
+      (equal (odds z) (backOf (lessBy (bitShift (residueOf (odds z))) (bitShift (residueOf (odds w)))) (odds w)))
+      (equal (opposite (odds z)) (backOf (lessBy (bitShift (residueOf (odds z))) (bitShift (residueOf (odds w)))) (odds w)) && eqb (classOf (odds z)) 0b0001)) premise (all-pairs (odds z) (odds w)))
 
   -- k falls: the parities agree
   pub agreeing : fallsOf z w ≡ true → odds z ≡ odds (back (powerOf z w) w)

@@ -1,32 +1,32 @@
 -- One step of synthesis at a reduced unitary triple with k over 0: it writes H, TH, SH or TSH and multiplies the inverse from the left. What was written
 -- times the next matrix is the old one; the next triple is reduced and unitary; k falls by one or stays. Assumes nothing.
 use mathlib.Core.Path.{_≡_, refl, sym, _∙_, ap, ap₂}
-use mathlib.Core.Bool.{Bool, true, false, not, cond, _&&_}
+use mathlib.Core.Bool.{Bool, true, false, not, _&&_}
 use mathlib.Core.List.{List, [], _∷_, _++_}
-use Prim.Native.Nat.{ℕ, zero, suc, _+_, _-_, _*_, _%_, _≤_, _<_}
+use Prim.Native.Nat.{ℕ, zero, suc, _+_, _-_, _%_, _≤_, _<_}
 use native.Mathlib.Omega.{arith}
 use native.Mathlib.Nat.{add-zero}
 use lib.Dec.{T}
-use lib.IntN.{ℤ, pos, negℤ, _+ℤ_, _-ℤ_}
-use mir.Facts.{and-yes, yes-and}
-use Rattle.exact.specs.Meaning.Number.{Quad, Ω, ints, omegas, addQ, negQ, mulQ, constQ, conjQ, omega^, root2, root2^, odd, residue}
-use Rattle.exact.specs.Meaning.Matrix.{Mat, scaleM, Matrix, unit, _·_, Same, Least}
-use Rattle.exact.specs.Meaning.Word.{Letter, I, H, S, X, W, T′, letter, word}
+use lib.IntN.{_+ℤ_}
+use mir.Facts.{yes-and}
+use Rattle.exact.specs.Meaning.Number.{Quad, Ω, ints, omegas, addQ, negQ, mulQ, omega^, root2, root2^, odd, residue}
+use Rattle.exact.specs.Meaning.Matrix.{scaleM, Matrix, unit, _·_, Same}
+use Rattle.exact.specs.Meaning.Word.{Letter, H, S, T′, letter, word}
 use Rattle.exact.specs.Meaning.Normal.{times}
 use Rattle.exact.specs.Meaning.Triple.{Triple, rows, entries, Unitary, Reduced}
-use Rattle.exact.specs.Whole.Parity.{xr, xr-self, odd-add, odd-sub, odd-neg, half, half-plus, half-minus, false-true}
+use Rattle.exact.specs.Whole.Parity.{xr, xr-self, odd-add, odd-sub, half, half-plus, half-minus, false-true}
 use Rattle.exact.specs.Algebra.Ring.{ints-laws}
 use Rattle.exact.specs.Algebra.Solver.{_⊗_, exprs, ring₃}
 use Rattle.exact.specs.Algebra.Omega.{omegas-laws, quad-path, root2^-add, X₀, parts, solveQ}
 use Rattle.exact.specs.Algebra.OmegaPower.{omega^-mod}
 use Rattle.exact.specs.Algebra.Norm.{norm, no-1011}
-use Rattle.exact.specs.Algebra.Over.{divides, over, over-times, root2-times, even-sums}
+use Rattle.exact.specs.Algebra.Over.{divides, over, even-sums}
 use Rattle.exact.specs.Matrices.Laws.{scale-scale}
 use Rattle.exact.specs.Matrices.Same.{mul-assoc, unit-mul, lifted, lifted-cancel, Same-refl, Same-sym, Same-trans, Same-of, Same-mul}
 use Rattle.exact.specs.Matrices.Test.{same-by}
 use Rattle.exact.specs.Matrices.Words.{word-append}
 use Rattle.exact.specs.Matrices.Triples.{act, acts, unitary-same, unitary-act}
-use Rattle.exact.specs.Matrices.Least.{reducedTest, reduced-test, lowest, lowered, lowered-same, Reduces, reduce, reduce-reduces, answer-unique}
+use Rattle.exact.specs.Matrices.Least.{reduced-test, lowered, lowered-same, Reduces, reduce, reduce-reduces, answer-unique}
 use Rattle.synthesis_of_clifford_t.specs.Residues.{odds, opposite, back, powerBy-few, powerOf, fallsOf, agreeing, differing, stays-class, one-class, four-classes, class-0000, class-0001}
 
 pub record Ready (t : Triple) : Type 0 where
@@ -230,12 +230,24 @@ module _ (x y : Matrix) (h : Same x y) where
       twice : (v : Ω) → mulQ ints (root2 ints) (mulQ ints (root2 ints) v) ≡ addQ ints v v
       twice v = solveQ ints ints-laws (parts v []) (mulQ exprs (root2 exprs) (mulQ exprs (root2 exprs) X₀)) (addQ exprs X₀ X₀) (tt, tt, tt, tt)
 
--- ---- n from 0 to 7
-abbrev smallN : Triple → Triple
-smallN t = record { k = t .k; n = t .n % 8; z = t .z; w = t .w }
+-- ---- n counts modulo 8
+abbrev pub at-n : Triple → ℕ → Triple
+at-n t n = record { k = t .k; n = n; z = t .z; w = t .w }
 
-smallN-same : (t : Triple) → entries (smallN t) ≡ entries t
-smallN-same t = ap (λ u. record { m = rows ints (t .z) (t .w) u; e = t .k }) (sym (omega^-mod (t .n)))
+pub n-same : (t : Triple) (n : ℕ) → n % 8 ≡ t .n % 8 → entries (at-n t n) ≡ entries t
+n-same t n e = ap (λ u. record { m = rows ints (t .z) (t .w) u; e = t .k }) (omega^-mod n ∙ ap omega^ e ∙ sym (omega^-mod (t .n)))
+
+small-same : (t : Triple) → entries (at-n t (t .n % 8)) ≡ entries t
+small-same t = n-same t (t .n % 8) twice
+  where
+    twice : t .n % 8 % 8 ≡ t .n % 8
+    twice = omega arith
+
+-- ---- the next triple is what reduces H·T^-m in coefficients, n modulo 8
+pub next-from : {t : Triple} (n : ℕ) (r : Triple) → Unitary t → n % 8 ≡ explicit (power t) t .n % 8 → Reduces (at-n (explicit (power t) t) n) r → next t ≡ r
+next-from {t} n r u e h =
+    next-by r u (h .reduced) (h .n-small)
+    (Same-trans (h .same) (Same-of (n-same (explicit (power t) t) n e ∙ ap entries (sym (undone (power t) t)))))
 
 -- ---- k falls by one or stays
 abbrev pub fallen : ℕ → Triple → Triple
@@ -306,7 +318,7 @@ module _ (t : Triple) (k : ℕ) (ready : Ready t) (e : t .k ≡ suc k) where
 
     fallen-same : Same (entries (fallen k t)) (entries x)
     fallen-same =
-        Same-trans (Same-of (smallN-same (lowered k (lowered (suc k) x))))
+        Same-trans (Same-of (small-same (lowered k (lowered (suc k) x))))
         (Same-trans (lowered-same k (lowered (suc k) x) refl falls-twice) (lowered-same (suc k) x (ap suc e) falls-once))
 
     pub fallen-reduced : Reduced (fallen k t)
@@ -326,7 +338,7 @@ module _ (t : Triple) (k : ℕ) (ready : Ready t) (e : t .k ≡ suc k) where
     stays-once = both (x .z) (x .w) (alike-divides (x .z) true z-odd) (alike-divides (x .w) true w-odd)
 
     stayed-same : Same (entries (stayed t)) (entries x)
-    stayed-same = Same-trans (Same-of (smallN-same (lowered (t .k) x))) (lowered-same (t .k) x refl stays-once)
+    stayed-same = Same-trans (Same-of (small-same (lowered (t .k) x))) (lowered-same (t .k) x refl stays-once)
 
     pub stayed-reduced : Reduced (stayed t)
     stayed-reduced =

@@ -1,13 +1,12 @@
 -- Step after step until k is 0: there are at most two for each k, and the letters are those of the steps and then the closing ones. Assumes nothing.
-use mathlib.Core.Path.{_≡_, refl, sym, _∙_, ap, ap₂}
+use mathlib.Core.Path.{_≡_, refl, sym, _∙_, ap}
 use mathlib.Core.Bool.{Bool, true, false, cond}
-use mathlib.Core.List.{List, [], _∷_, _++_}
-use Prim.Native.Nat.{ℕ, zero, suc, _+_, _-_, _*_, _≤_, _<_}
+use mathlib.Core.List.{List, _++_}
+use Prim.Native.Nat.{ℕ, zero, suc, _-_, _*_, _≤_, _<_}
 use native.Mathlib.Omega.{arith}
-use lib.ListN.{length, length-append}
-use Rattle.exact.specs.Meaning.Matrix.{_·_, Same}
-use Rattle.exact.specs.Meaning.Word.{Letter, word, tees}
-use Rattle.exact.specs.Meaning.Triple.{Triple, entries, Unitary, Reduced}
+use Rattle.exact.specs.Meaning.Matrix.{Same}
+use Rattle.exact.specs.Meaning.Word.{Letter, word}
+use Rattle.exact.specs.Meaning.Triple.{Triple, entries}
 use Rattle.exact.specs.Matrices.Same.{Same-refl, Same-trans, Same-of, Same-mul}
 use Rattle.exact.specs.Matrices.Words.{word-append}
 use Rattle.synthesis_of_clifford_t.specs.Step.{Ready, block, power, falls, next, next-ready, step-same, next-falls, next-stays, then-falls}
@@ -123,5 +122,5 @@ letters-same =
     by-steps (λ t. Same (word (letters t)) (entries t))
     (λ t r e. Same-of (ap word (letters-end t e) ∙ closing-is t (r .unitary) e))
     (λ t k r e h.
-      Same-trans (Same-of (ap word (letters-more t k r e) ∙ word-append (block (power t)) (letters (next t))))
-      (Same-trans (Same-mul (Same-refl (word (block (power t)))) h) (step-same t)))
+    Same-trans (Same-of (ap word (letters-more t k r e) ∙ word-append (block (power t)) (letters (next t))))
+    (Same-trans (Same-mul (Same-refl (word (block (power t)))) h) (step-same t)))

@@ -1,17 +1,21 @@
 -- Exact synthesis whole: the letters that a unitary triple, reduced first, is taken apart into have its matrix, phase included; when a step exists, and
--- what it is. Assumes nothing.
-use mathlib.Core.Path.{_≡_, refl, sym, _∙_, ap}
-use mathlib.Core.List.{List, [], _∷_, _++_}
+-- what it is; and what follows for words: their normal words' lengths, by the least exponent. Assumes nothing.
+use mathlib.Core.Path.{_≡_, ap}
+use mathlib.Core.List.{List}
 use Prim.Native.Nat.{ℕ, zero, suc, _+_, _*_, _≤_, _<_}
 use native.Mathlib.Omega.{arith}
-use Rattle.exact.specs.Meaning.Matrix.{_·_, Same}
+use lib.ListN.{length}
+use Rattle.exact.specs.Meaning.Matrix.{_·_, Same, Least}
 use Rattle.exact.specs.Meaning.Word.{Letter, word}
-use Rattle.exact.specs.Meaning.Triple.{Triple, entries, Unitary, Reduced}
-use Rattle.exact.specs.Matrices.Same.{Same-sym, Same-trans}
-use Rattle.exact.specs.Matrices.Triples.{unitary-same}
-use Rattle.exact.specs.Matrices.Least.{Reduces, reduce, reduce-reduces, answer-unique}
-use Rattle.synthesis_of_clifford_t.specs.Step.{Ready, Reduction, Ended, Stepped, reduction, block, power, power-few, next, next-ready, next-n, step-same}
+use Rattle.exact.specs.Meaning.Triple.{Triple, entries, Unitary}
+use Rattle.exact.specs.Meaning.Normal.{Normal}
+use Rattle.exact.specs.Meaning.Limits.{deepest, enough}
+use Rattle.exact.specs.Matrices.Same.{Same-sym, Same-trans, Same-of}
+use Rattle.exact.specs.Matrices.Triples.{unitary-same, tripleOf, word-triple, word-unitary}
+use Rattle.exact.specs.Matrices.Least.{reduce, reduce-reduces, answer-unique, least-unique, least-same}
+use Rattle.synthesis_of_clifford_t.specs.Step.{Ready, Ended, Stepped, reduction, block, power, power-few, next, next-ready, next-n, step-same}
 use Rattle.synthesis_of_clifford_t.specs.Steps.{left, left-few, left-next, letters, letters-same}
+use Rattle.synthesis_of_clifford_t.specs.Counts.{answer-length}
 
 -- ---- a step: one of the four blocks, and a reduced unitary triple from which fewer steps are left
 pub record StepTo (t : Triple) (m : ℕ) (s : Triple) : Type 0 where
@@ -48,3 +52,20 @@ letters-alike s t u h =
     ap letters
     (answer-unique (reduce-ready s u .unitary) (reduce-reduces s .reduced) (reduce-reduces t .reduced) (reduce-reduces s .n-small) (reduce-reduces t .n-small)
     (Same-trans (reduce-reduces s .same) (Same-trans h (Same-sym (reduce-reduces t .same)))))
+
+-- ---- words
+reduced-word : (u : List Letter) → Same (entries (reduce (tripleOf u))) (word u)
+reduced-word u = Same-trans (reduce-reduces (tripleOf u) .same) (Same-of (word-triple u))
+
+pub word-synthesised : (u : List Letter) → Same (word (letters (reduce (tripleOf u)))) (word u)
+word-synthesised u = Same-trans (synthesised (tripleOf u) (word-unitary u)) (Same-of (word-triple u))
+
+-- a normal word with a word's matrix, by that matrix's least exponent
+pub word-length : (u v : List Letter) (k : ℕ) → Least (word u) k → Normal v → Same (word v) (word u) → length v ≤ 6 * k + 16
+word-length u v k l n h =
+    let r = reduce (tripleOf u) in
+    let q : Ready r = reduce-ready (tripleOf u) (word-unitary u) in
+    omega (arith, answer-length r v q n (Same-trans h (Same-sym (reduced-word u))), least-unique l (least-same (reduced-word u) (q .reduced .least)))
+
+pub word-enough : (u v : List Letter) (k : ℕ) → Least (word u) k → k ≤ deepest → Normal v → Same (word v) (word u) → length v ≤ enough
+word-enough u v k l d n h = omega (arith, word-length u v k l n h)

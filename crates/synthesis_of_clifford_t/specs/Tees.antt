@@ -1,19 +1,17 @@
 -- No T of a synthesised word is lost: after the first step m is not 0, two steps with m = 2 never follow each other, so between two T stands H, SH, HSH
 -- or SHSH; some vector's turned parities show every T, and a normal word for any beginning of the letters has as many T letters as it. Assumes nothing.
 use mathlib.Core.Path.{_≡_, refl, sym, _∙_, ap, ap₂}
-use mathlib.Core.Bool.{Bool, true, false, cond}
+use mathlib.Core.Bool.{Bool, true, false}
 use mathlib.Core.List.{List, [], _∷_, _++_}
-use Prim.Native.Nat.{ℕ, zero, suc, _+_, _-_, _*_, _%_, _≤_, _<_}
+use Prim.Native.Nat.{ℕ, zero, suc, _+_, _-_, _*_, _≤_, _<_}
 use native.Mathlib.Omega.{arith}
-use borrow.Author.Tests.{le-ltb}
-use lib.Dec.{T, ltb}
 use lib.IntN.{ℤ, pos, _+ℤ_}
-use Rattle.exact.specs.Meaning.Number.{Quad, Ω, ints, addQ, odd, bit, residue}
+use Rattle.exact.specs.Meaning.Number.{ints, addQ, odd, bit, residue}
 use Rattle.exact.specs.Meaning.Matrix.{Matrix, _·_, Same}
-use Rattle.exact.specs.Meaning.Word.{Letter, I, H, S, X, W, T′, letter, word, tees}
+use Rattle.exact.specs.Meaning.Word.{Letter, H, S, X, W, T′, letter, word, tees}
 use Rattle.exact.specs.Meaning.Normal.{times, Normal}
-use Rattle.exact.specs.Meaning.Triple.{Triple, entries, Unitary, Reduced}
-use Rattle.exact.specs.Whole.Parity.{xr, xr-comm, odd-add, false-true}
+use Rattle.exact.specs.Meaning.Triple.{Triple, entries}
+use Rattle.exact.specs.Whole.Parity.{xr-comm, false-true}
 use Rattle.exact.specs.Algebra.Omega.{quad-path}
 use Rattle.exact.specs.Matrices.Same.{mul-assoc, Same-refl, Same-sym, Same-trans, Same-of, Same-mul}
 use Rattle.exact.specs.Matrices.Test.{same-by}
@@ -89,8 +87,12 @@ module _ (t : Triple) (k j : ℕ) (r : Ready t) (e : t .k ≡ suc k) (f : next t
   pub then-not-0 : power (next t) ≡ 0 → ⊥
   then-not-0 g =
       let s : Same (word (block (power t) ++ block (power (next t)))) (word (first (power t))) = rw g (struck (power t)) in
-      omega (arith, two-steps, first-e (power t),
-        r .reduced .least .least (word (first (power t)) · entries (next (next t))) (Same-trans (Same-sym both-same) (Same-mul s (Same-refl (entries (next (next t)))))))
+      omega (
+        arith,
+        two-steps,
+        first-e (power t),
+        r .reduced .least .least (word (first (power t)) · entries (next (next t))) (Same-trans (Same-sym both-same) (Same-mul s (Same-refl (entries (next (next t)))))),
+      )
 
   -- H·SH·SH is SSSW, so that H alone would lower k by one: then z and w have the same residue, and m is 0
   pub not-2-2 : power t ≡ 2 → power (next t) ≡ 2 → ⊥
@@ -218,5 +220,11 @@ tees-kept t v r n h = same-count (letters t) v (Same-trans (letters-same t r) (S
 -- and so for each beginning of the letters: reading one more T never takes a T away
 pub beginning-kept : (t : Triple) (u v n : List Letter) → Ready t → letters t ≡ u ++ v → Normal n → Same (word n) (word u) → tees n ≡ tees u
 beginning-kept t u v n r e m h =
-    omega (arith, normal-fewest u (Same-sym h) m, ap tees e, tees-append u v, tees-append n v,
-      fewest (n ++ v) (letters t) (Same-trans (Same-append n u v v h (Same-refl (word v))) (Same-of (ap word (sym e)))) (letters-seen t r))
+    omega (
+      arith,
+      normal-fewest u (Same-sym h) m,
+      ap tees e,
+      tees-append u v,
+      tees-append n v,
+      fewest (n ++ v) (letters t) (Same-trans (Same-append n u v v h (Same-refl (word v))) (Same-of (ap word (sym e)))) (letters-seen t r),
+    )

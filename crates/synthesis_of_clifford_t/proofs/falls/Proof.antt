@@ -5,9 +5,6 @@ use borrow.Author.Needs.{needs}
 use Rattle.synthesis_of_clifford_t.specs.Residues.{fallsBy}
 use Rattle.synthesis_of_clifford_t.proofs.falls.Statement.{statement}
 use Rattle.synthesis_of_clifford_t.proofs.falls.Tie as tie
-use Rattle.synthesis_of_clifford_t.proofs.falls.Reads as reads
-use Rattle.synthesis_of_clifford_t.proofs.falls.Lts as lts
-use Rattle.synthesis_of_clifford_t.proofs.bit_count.Reads as bit-count-reads
 
 -- src/lib.rt:38:5
 bit-count-requires : tie.Need-bit-count-requires

@@ -4,9 +4,6 @@ use borrow.Author.Needs.{needs}
 use Rattle.synthesis_of_clifford_t.specs.Residues.{bitShift-few, power-less, power-not-less}
 use Rattle.synthesis_of_clifford_t.proofs.power.Statement.{statement}
 use Rattle.synthesis_of_clifford_t.proofs.power.Tie as tie
-use Rattle.synthesis_of_clifford_t.proofs.power.Reads as reads
-use Rattle.synthesis_of_clifford_t.proofs.power.Lts as lts
-use Rattle.synthesis_of_clifford_t.proofs.bit_shift.Reads as bit-shift-reads
 
 -- src/lib.rt:28:9
 bit-shift-requires : tie.Need-bit-shift-requires
