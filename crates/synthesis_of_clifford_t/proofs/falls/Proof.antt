@@ -6,15 +6,12 @@ use Rattle.synthesis_of_clifford_t.specs.Residues.{fallsBy}
 use Rattle.synthesis_of_clifford_t.proofs.falls.Statement.{statement}
 use Rattle.synthesis_of_clifford_t.proofs.falls.Tie as tie
 
--- src/lib.rt:38:5
 bit-count-requires : tie.Need-bit-count-requires
 bit-count-requires c κs = search needs
 
--- src/lib.rt:38:21
 bit-count-requires-2 : tie.Need-bit-count-requires-2
 bit-count-requires-2 c κs = search needs
 
--- src/lib.rt:34:1
 returns : tie.Need-returns
 unfolding fallsBy
 returns c = ap₂ eqb (c .before .bit-count .ensures) (c .bit-count2 .ensures)

@@ -5,27 +5,21 @@ use Rattle.synthesis_of_clifford_t.specs.Residues.{bitShift-few, power-l
 use Rattle.synthesis_of_clifford_t.proofs.power.Statement.{statement}
 use Rattle.synthesis_of_clifford_t.proofs.power.Tie as tie
 
--- src/lib.rt:28:9
 bit-shift-requires : tie.Need-bit-shift-requires
 bit-shift-requires c κs = search needs
 
--- src/lib.rt:29:9
 bit-shift-requires-2 : tie.Need-bit-shift-requires-2
 bit-shift-requires-2 c κs = search needs
 
--- src/lib.rt:30:16
 add-result : tie.Need-add-result
 add-result c = record { fits = omega (arith, bitShift-few (c .before .before .before .args .w), c .before .bit-shift2 .ensures) }
 
--- src/lib.rt:30:16
 sub-result : tie.Need-sub-result
 sub-result c = omega (arith, bitShift-few (c .before .before .before .args .z), c .before .before .bit-shift .ensures)
 
--- src/lib.rt:24:1
 returns : tie.Need-returns
 returns c = power-less (c .before .before .before .args .z) (c .before .before .before .args .w) (c .before .before .bit-shift .result) (c .before .bit-shift2 .result) (c .before .before .bit-shift .ensures) (c .before .bit-shift2 .ensures) (c .if1 .taken)
 
--- src/lib.rt:24:1
 returns-2 : tie.Need-returns-2
 returns-2 c = power-not-less (c .before .before .before .args .z) (c .before .before .before .args .w) (c .before .before .bit-shift .result) (c .before .bit-shift2 .result) (c .before .before .bit-shift .ensures) (c .before .bit-shift2 .ensures) (c .if1 .left)
 
