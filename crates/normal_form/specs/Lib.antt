@@ -4,3 +4,4 @@ pub mod Remainder
 pub mod Words
 pub mod Tables
 pub mod Cliffords
+pub mod Readings
