@@ -5,3 +5,4 @@ pub mod Words
 pub mod Tables
 pub mod Cliffords
 pub mod Readings
+pub mod Held
