@@ -9,7 +9,7 @@ use native.Mathlib.Numerals.{add-one}
 use native.Mathlib.Omega.{arith}
 use borrow.Author.Tests.{eqb-true, eqb-false, ne-eqb}
 use lib.Dec.{eqb}
-use lib.ListN.{length, take, drop, set, getD, length-append, length-take, length-set}
+use lib.ListN.{length, take, drop, set, getD, replicate, length-append, length-take, length-set, length-replicate}
 use lib.Seq.{length-take-le, take-suc, take-set-le, take-suc-set, take-take, take-append-seam, getD-take, getD-append-seam, getD-set-same, getD-set-other}
 use Rattle.exact.specs.Meaning.Word.{Letter, H, S, T′}
 use Rattle.exact.specs.Meaning.Normal as normal
@@ -129,6 +129,14 @@ pub record Blank (items : List ℕ) : Type 0 where
   pub room : length items ≡ 4096
   pub empty : (i : ℕ) → getD items i 0 ≡ 0
 
+zeros : (n i : ℕ) → _≡_ {A = ℕ} (getD (replicate {A = ℕ} n 0) i 0) 0
+zeros zero i = refl
+zeros (suc n) zero = refl
+zeros (suc n) (suc i) = zeros n i
+
+pub blank : Blank (replicate {A = ℕ} 4096 0)
+blank = record { room = length-replicate {A = ℕ} 4096 0; empty = zeros 4096 }
+
 -- ---- push and pop
 pub record Pushed (old : List ℕ) (r : Reading) (s : Syllable) (tail : Clifford) (new : List ℕ) (n : Reading) : Type 0 where
   pub items : new ≡ set old (r .count) (syllableNumber s)
@@ -164,8 +172,11 @@ prefix-few b (s ∷ ss) = omega (arith, prefix-length b s ss, syllable-few s, pr
 pub count-is : {items : List ℕ} {r : Reading} {st : State} → Holds items r st → r .count ≡ sizeOf st
 count-is {items} {r} {st} h = h .array .count ∙ codes-length (st .lead) (st .stack)
 
+pub bytes-most : {items : List ℕ} {r : Reading} {st : State} → Holds items r st → r .count ≤ 4096 → r .bytes ≤ 12288
+bytes-most {items} {r} {st} h l = omega (arith, h .bytes-is, prefix-few (st .lead) (st .stack), count-is h)
+
 pub bytes-few : {items : List ℕ} {r : Reading} {st : State} → Holds items r st → r .count < 4096 → r .bytes ≤ 12288
-bytes-few {items} {r} {st} h l = omega (arith, h .bytes-is, prefix-few (st .lead) (st .stack), count-is h)
+bytes-few h l = bytes-most h (omega arith)
 
 -- ---- adding a syllable
 pub push-holds : (old : List ℕ) (r : Reading) (st : State) (s : normal.Syllable) (tail : Clifford) (new : List ℕ) (n : Reading) → Holds old r st → r .count < 4096 → Ranged tail → Pushed old r (named s) tail new n → Holds new n (state (st .lead) (s ∷ st .stack) tail)

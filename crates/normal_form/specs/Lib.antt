@@ -6,3 +6,8 @@ pub mod Tables
 pub mod Cliffords
 pub mod Readings
 pub mod Held
+pub mod Outcome
+pub mod Letters
+pub mod Put
+pub mod Endings
+pub mod Answers
