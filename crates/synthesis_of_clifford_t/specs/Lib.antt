@@ -8,3 +8,4 @@ pub mod Synthesised
 pub mod Tees
 pub mod Loop
 pub mod Cases
+pub mod Outcome

@@ -3,6 +3,13 @@ ghost use mathlib.Core.Path.{_≡_};
 ghost use Prim.Native.Nat.{_<_};
 ghost use Rattle.synthesis_of_clifford_t.specs.Residues.{bitShift, bitCount, powerBy, fallsBy};
 
+// What job 4 hands back: the refusal or 0, the bytes written and the T letters among them.
+pub struct Synthesis {
+    pub refusal: u8,
+    pub bytes: usize,
+    pub tees: usize,
+}
+
 const BIT_SHIFT: [u8; 16] = [0, 0, 1, 0, 2, 0, 1, 3, 3, 3, 0, 2, 2, 1, 0, 0];
 
 const BIT_COUNT: [u8; 16] = [0, 1, 1, 2, 1, 2, 2, 3, 1, 2, 2, 3, 2, 3, 3, 4];
