@@ -1,0 +1,4 @@
+-- The bench record and its answer: Meaning is what a reader must believe, the others are for proofs.
+pub mod Meaning
+pub mod Decimal
+pub mod Format

@@ -1,0 +1,62 @@
+-- The bench record and its answer in bytes, as document 01's section "The bench program" has them.
+use mathlib.Core.Bool.{true, false}
+use mathlib.Core.List.{List, [], _∷_, _++_}
+use Prim.Native.Nat.{ℕ, zero, suc, _+_, _/_, _%_, _^_, _≤_, _<_}
+use lib.Dec.{ltb}
+use lib.IntN.{ℤ, pos, negsuc}
+use lib.ListN.{length}
+use Rattle.exact.specs.Meaning.Number.{Ω}
+
+-- ---- a decimal number: no leading zeros, an optional minus, no -0
+-- the digits of n / 10, where there are any, and the last; f is no fewer than the digits
+unfoldable pub digitsOf : ℕ → ℕ → List ℕ
+digitsOf zero n = []
+digitsOf (suc f) n = elim (ltb n 10) [ true ↦ (48 + n) ∷ [] | false ↦ digitsOf f (n / 10) ++ ((48 + n % 10) ∷ []) ]
+
+unfoldable pub digits : ℕ → List ℕ
+digits n = digitsOf (suc n) n
+
+abbrev pub text : ℤ → List ℕ
+text (pos n) = digits n
+text (negsuc n) = 45 ∷ digits (suc n)
+
+-- within 64-bit signed range
+abbrev pub InRange : ℤ → Type 0
+InRange (pos n) = n < 2 ^ 63
+InRange (negsuc n) = suc n ≤ 2 ^ 63
+
+-- ---- lines: a name, `=`, a value, LF
+abbrev pub line : List ℕ → List ℕ → List ℕ
+line name value = name ++ (61 ∷ (value ++ (10 ∷ [])))
+
+-- four numbers parted by commas
+abbrev pub four : Ω → List ℕ
+four x = text (x .a) ++ (44 ∷ (text (x .b) ++ (44 ∷ (text (x .c) ++ (44 ∷ text (x .d))))))
+
+-- ---- the record: k, n, z and w, in that order
+pub record Numbers : Type 0 where
+  pub k : ℤ
+  pub n : ℕ
+  pub z : Ω
+  pub w : Ω
+
+abbrev pub recordText : Numbers → List ℕ
+recordText x = line (107 ∷ []) (text (x .k)) ++ (line (110 ∷ []) (digits (x .n)) ++ (line (122 ∷ []) (four (x .z)) ++ line (119 ∷ []) (four (x .w))))
+
+pub record RingInRange (x : Ω) : Type 0 where
+  pub a-in : InRange (x .a)
+  pub b-in : InRange (x .b)
+  pub c-in : InRange (x .c)
+  pub d-in : InRange (x .d)
+
+-- ---- the answer: refusal number, word, its T letters, its length; when refused the word is empty, and both counts are 0
+abbrev pub answerLines : ℕ → List ℕ → ℕ → List ℕ
+answerLines refusal word t =
+    line (114 ∷ 101 ∷ 102 ∷ 117 ∷ 115 ∷ 97 ∷ 108 ∷ []) (digits refusal)
+    ++ (line (119 ∷ 111 ∷ 114 ∷ 100 ∷ []) word
+    ++ (line (116 ∷ []) (digits t)
+    ++ line (98 ∷ 121 ∷ 116 ∷ 101 ∷ 115 ∷ []) (digits (length word))))
+
+abbrev pub answerText : ℕ → List ℕ → ℕ → List ℕ
+answerText zero word t = answerLines zero word t
+answerText (suc r) word t = answerLines (suc r) [] 0

@@ -1,0 +1,1 @@
+// The bench record, read from a slice, and its answer, written to a slice.
