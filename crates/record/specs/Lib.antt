@@ -2,3 +2,5 @@
 pub mod Meaning
 pub mod Decimal
 pub mod Format
+pub mod Read
+pub mod ReadLaws

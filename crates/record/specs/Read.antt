@@ -1,0 +1,28 @@
+-- What the inner readers answer, case by case: a format's text found, with its value and the place behind it, or none there. Assumes nothing.
+use mathlib.Core.Path.{_≡_}
+use mathlib.Core.List.{List}
+use Prim.Native.Nat.{ℕ, _+_, _-_, _*_, _≤_, _<_}
+use Rattle.record.specs.Decimal.{Digit, Grown, First}
+use Rattle.record.specs.Format.{Found, Missing, natural}
+use Rattle.record.specs.declared.decimal.Step.{Step}
+use Rattle.record.specs.declared.decimal.Step.the-variants.{More, Stop}
+use Rattle.record.specs.declared.decimal.Natural.{Natural}
+use Rattle.record.specs.declared.decimal.Natural.the-variants.{Is, No}
+
+-- v is what the digit b makes of what came before, w, and it is at most most
+pub record Taken (w b most v : ℕ) : Type 0 where
+  pub digit : Digit b
+  pub is : v ≡ w * 10 + (b - 48)
+  pub small : v ≤ most
+
+abbrev pub DigitIs : ℕ → ℕ → Step → Type 0
+DigitIs b most (More v) = Taken 0 b most v
+DigitIs b most Stop = First b most → ⊥
+
+abbrev pub PushIs : ℕ → ℕ → ℕ → Step → Type 0
+PushIs w b most (More v) = Taken w b most v × (0 < w)
+PushIs w b most Stop = Grown w b most → ⊥
+
+abbrev pub NaturalIs : List ℕ → List ℕ → ℕ → ℕ → Natural → Type 0
+NaturalIs s l e most (Is v next) = Found (natural most e) l s v next
+NaturalIs s l e most No = Missing (natural most e) l
