@@ -144,10 +144,10 @@ pub record Goes (xs ys : List ℕ) (b : ℕ) : Type 0 where
   pub more : List ℕ
   pub is : xs ≡ ys ++ (b ∷ more)
 
-cons-head : {a b : ℕ} {s t : List ℕ} → a ∷ s ≡ b ∷ t → a ≡ b
+pub cons-head : {a b : ℕ} {s t : List ℕ} → a ∷ s ≡ b ∷ t → a ≡ b
 cons-head h = cc
 
-cons-tail : {a b : ℕ} {s t : List ℕ} → a ∷ s ≡ b ∷ t → s ≡ t
+pub cons-tail : {a b : ℕ} {s t : List ℕ} → a ∷ s ≡ b ∷ t → s ≡ t
 cons-tail h = cc
 
 module _ (e b : ℕ) (r t : List ℕ) (h : Digit e → ⊥) where
@@ -230,7 +230,7 @@ digits-once e m n r t h p = go (cut e e r t (no-digit e h) (digits m) (digits n)
     go (inr g) = absurd (no-digit e h (digits-part (digits n) (e ∷ g .more) (subst Digits (g .is) (digits-digits m)) .0))
 
 -- digits and a minus differ
-minus-first : (n : ℕ) (r t : List ℕ) → digits n ++ r ≡ 45 ∷ t → ⊥
+pub minus-first : (n : ℕ) (r t : List ℕ) → digits n ++ r ≡ 45 ∷ t → ⊥
 minus-first n r t p = let f : First 45 n = first-of n 45 r t p in omega (arith, f .digit)
 
 pub text-once : (e : ℕ) (x y : ℤ) (r t : List ℕ) → e < 48 → text x ++ (e ∷ r) ≡ text y ++ (e ∷ t) → (x ≡ y) × (r ≡ t)

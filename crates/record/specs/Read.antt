@@ -3,11 +3,13 @@ use mathlib.Core.Path.{_≡_}
 use mathlib.Core.List.{List}
 use Prim.Native.Nat.{ℕ, _+_, _-_, _*_, _≤_, _<_}
 use Rattle.record.specs.Decimal.{Digit, Grown, First}
-use Rattle.record.specs.Format.{Found, Missing, natural}
+use Rattle.record.specs.Format.{Found, Missing, natural, whole}
 use Rattle.record.specs.declared.decimal.Step.{Step}
 use Rattle.record.specs.declared.decimal.Step.the-variants.{More, Stop}
 use Rattle.record.specs.declared.decimal.Natural.{Natural}
 use Rattle.record.specs.declared.decimal.Natural.the-variants.{Is, No}
+use Rattle.record.specs.declared.decimal.Whole.{Whole}
+use Rattle.record.specs.declared.decimal.Whole.the-variants.{Is as IsWhole, No as NoWhole}
 
 -- v is what the digit b makes of what came before, w, and it is at most most
 pub record Taken (w b most v : ℕ) : Type 0 where
@@ -26,3 +28,7 @@ PushIs w b most Stop = Grown w b most → ⊥
 abbrev pub NaturalIs : List ℕ → List ℕ → ℕ → ℕ → Natural → Type 0
 NaturalIs s l e most (Is v next) = Found (natural most e) l s v next
 NaturalIs s l e most No = Missing (natural most e) l
+
+abbrev pub WholeIs : List ℕ → List ℕ → ℕ → Whole → Type 0
+WholeIs s l e (IsWhole z next) = Found (whole e) l s z next
+WholeIs s l e NoWhole = Missing (whole e) l

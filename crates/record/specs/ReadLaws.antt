@@ -5,11 +5,15 @@ use mathlib.Core.List.{List, [], _∷_, _++_, append-assoc, append-nil}
 use Prim.Native.Nat.{ℕ, zero, suc, _+_, _-_, _*_, _^_, _≤_, _<_}
 use native.Mathlib.Numerals.{add-one}
 use native.Mathlib.Omega.{arith}
-use lib.ListN.{length, getD, drop, drop-of-length-le}
+use lib.IntN.{ℤ, pos, negsuc, _-ℤ_}
+use lib.ListN.{length, getD, drop, drop-of-length-le, length-append}
 use lib.Seq.{drop-cons}
+use mir.Syntax.{w64}
+use mir.Val.{SFits, ofZ, toZ}
+use mir.ValLaws.{toZ-pos, toZ-ofZ}
 use Rattle.record.specs.Meaning.{digits, text, InRange}
-use Rattle.record.specs.Decimal.{Digit, Digits, Grown, First, Ends, Goes, digits-one, digits-push, digits-digits, cut, goes-on, first-of, all-digits, no-digit}
-use Rattle.record.specs.Format.{Found, Missing, natural}
+use Rattle.record.specs.Decimal.{Digit, Digits, Grown, First, Ends, Goes, digits-one, digits-push, digits-digits, cut, goes-on, first-of, all-digits, no-digit, minus-first, cons-head, cons-tail, digits-once}
+use Rattle.record.specs.Format.{Found, Missing, natural, whole}
 use Rattle.record.specs.Read.{Taken}
 
 -- ---- a digit more
@@ -95,3 +99,65 @@ module _ (s : List ℕ) (at most e : ℕ) (l : e < 48) where
       let w = first-of n (getD s at 0) ((e ∷ []) ++ rest) (drop (at + 1) s) (sym (append-assoc (digits n) (e ∷ []) rest) ∙ sym p ∙ byte-and s at h) in
       f (record { digit = w .digit; least = omega (arith, w .least) })
   }
+
+-- ---- with a sign
+-- what begins with another byte has no minus
+pub positive-none : (l : List ℕ) (e : ℕ) → ((t : List ℕ) → l ≡ 45 ∷ t → ⊥) → Missing (natural (2 ^ 63 - 1) e) l → Missing (whole e) l
+positive-none l e h m = record { none = none }
+  where
+    none : (z : ℤ) (rest : List ℕ) → InRange z → l ≡ (text z ++ (e ∷ [])) ++ rest → ⊥
+    none (pos n) rest ok p = m .none n rest (omega arith) p
+    none (negsuc n) rest ok p = h ((digits (suc n) ++ (e ∷ [])) ++ rest) p
+
+pub no-minus : (s : List ℕ) (at : ℕ) → at < length s → (getD s at 0 ≡ 45 → ⊥) → (t : List ℕ) → drop at s ≡ 45 ∷ t → ⊥
+no-minus s at h n t p = n (cons-head (sym (byte-and s at h) ∙ p))
+
+pub positive-found : (l s : List ℕ) (e v next : ℕ) → Found (natural (2 ^ 63 - 1) e) l s v next → Found (whole e) l s (pos v) next
+positive-found l s e v next f = record { is = f .is; fine = omega (arith, f .fine); within = f .within }
+
+module _ (l : List ℕ) (e : ℕ) where
+  negatives : ((n : ℕ) (rest : List ℕ) → suc n ≤ 2 ^ 63 → l ≡ (digits (suc n) ++ (e ∷ [])) ++ rest → ⊥) → Missing (whole e) (45 ∷ l)
+  negatives h = record { none = none }
+    where
+      none : (z : ℤ) (rest : List ℕ) → InRange z → 45 ∷ l ≡ (text z ++ (e ∷ [])) ++ rest → ⊥
+      none (pos n) rest ok p = minus-first n ((e ∷ []) ++ rest) l (sym (append-assoc (digits n) (e ∷ []) rest) ∙ sym p)
+      none (negsuc n) rest ok p = h n rest ok (cons-tail p)
+
+  pub negative-none : Missing (natural (2 ^ 63) e) l → Missing (whole e) (45 ∷ l)
+  negative-none m = negatives (λ n rest ok p. m .none (suc n) rest ok p)
+
+  pub negative-zero : (s : List ℕ) (v next : ℕ) → e < 48 → v ≡ 0 → Found (natural (2 ^ 63) e) l s v next → Missing (whole e) (45 ∷ l)
+  negative-zero s v next h q f =
+      negatives (λ n rest ok p.
+      let z = digits-once e v (suc n) (drop next s) rest h (sym (append-assoc (digits v) (e ∷ []) (drop next s)) ∙ sym (f .is) ∙ p ∙ append-assoc (digits (suc n)) (e ∷ []) rest) in
+      omega (arith, z .0))
+
+  pub negative-found : (s : List ℕ) (m next : ℕ) → Found (natural (2 ^ 63) e) l s (suc m) next → Found (whole e) (45 ∷ l) s (negsuc m) next
+  negative-found s m next f = record { is = ap (λ x. 45 ∷ x) (f .is); fine = f .fine; within = f .within }
+
+-- ---- the same as machine numbers
+minus-one-less : (m : ℕ) → negsuc 0 -ℤ pos m ≡ negsuc m
+minus-one-less zero = refl
+minus-one-less (suc m) = ap (λ n. negsuc n) (omega arith)
+
+pub less-is : (m : ℕ) → m < 2 ^ 63 → negsuc 0 -ℤ toZ w64 m ≡ negsuc m
+less-is m h = ap (λ z. negsuc 0 -ℤ z) (toZ-pos w64 m h) ∙ minus-one-less m
+
+pub less-fits : (m : ℕ) → m < 2 ^ 63 → SFits w64 (negsuc 0 -ℤ toZ w64 m)
+less-fits m h = subst (SFits w64) (sym (less-is m h)) (record { sfits = h })
+
+-- what a number held as bits reads back as
+pub negative-held : (m : ℕ) → m < 2 ^ 63 → toZ w64 (ofZ w64 (negsuc 0 -ℤ toZ w64 m)) ≡ negsuc m
+negative-held m h = toZ-ofZ w64 (negsuc 0 -ℤ toZ w64 m) (less-fits m h) ∙ less-is m h
+
+pub positive-held : (m : ℕ) → m ≤ 2 ^ 63 - 1 → toZ w64 m ≡ pos m
+positive-held m h = toZ-pos w64 m (omega arith)
+
+pub minus-there : (s : List ℕ) (at : ℕ) → at < length s → getD s at 0 ≡ 45 → 45 ∷ drop (at + 1) s ≡ drop at s
+minus-there s at h q = sym (byte-and s at h ∙ ap (λ b. b ∷ drop (at + 1) s) q)
+
+pub whole-past : (s : List ℕ) (at e : ℕ) → length s ≤ at → Missing (whole e) (drop at s)
+whole-past s at e h = record { none = λ z rest ok p. nothing z rest (ap length (sym (drop-of-length-le s h) ∙ p)) }
+  where
+    nothing : (z : ℤ) (rest : List ℕ) → 0 ≡ length ((text z ++ (e ∷ [])) ++ rest) → ⊥
+    nothing z rest q = omega (arith, simp length-append at q)

@@ -1,8 +1,9 @@
 // Decimal numbers in a slice, each ended by a byte that is no digit.
 ghost use mathlib.Core.Path.{_≡_};
 ghost use Prim.Native.Nat.{_<_};
-ghost use lib.ListN.{drop};
-ghost use Rattle.record.specs.Read.{DigitIs, PushIs, NaturalIs};
+ghost use mathlib.Core.List.{_∷_};
+ghost use lib.ListN.{length, getD, drop};
+ghost use Rattle.record.specs.Read.{DigitIs, PushIs, NaturalIs, WholeIs};
 
 // A digit taken in, or none.
 pub enum Step {
@@ -83,4 +84,52 @@ pub fn natural_at(s: &[u8], at: usize, end: u8, most: u64) -> Natural
         i += 1;
     }
     Natural::No
+}
+
+pub enum Whole {
+    Is { value: i64, next: usize },
+    No,
+}
+
+// The number in 64-bit signed range at a place, with `end` behind it.
+pub fn whole_at(s: &[u8], at: usize, end: u8) -> Whole
+    requires { ⌜ end < 48 ⌝ }
+    ensures { λ r. ⌜ WholeIs (now (s .entry)) (drop at (now (s .entry))) end r ⌝ }
+{
+    if at >= s.len() {
+        return Whole::No;
+    }
+    if s[at] == b'-' {
+        return negative_at(s, at + 1, end);
+    }
+    positive_at(s, at, end)
+}
+
+// The same where there is no minus.
+fn positive_at(s: &[u8], at: usize, end: u8) -> Whole
+    requires { ⌜ (end < 48) × (at < length (now s)) × (getD (now s) at 0 ≡ 45 → ⊥) ⌝ }
+    ensures { λ r. ⌜ WholeIs (now (s .entry)) (drop at (now (s .entry))) end r ⌝ }
+{
+    let Natural::Is { value, next } = natural_at(s, at, end, 9223372036854775807) else {
+        return Whole::No;
+    };
+    let value = value as i64;
+    Whole::Is { value, next }
+}
+
+// The same behind a minus.
+fn negative_at(s: &[u8], at: usize, end: u8) -> Whole
+    requires { ⌜ end < 48 ⌝ }
+    ensures { λ r. ⌜ WholeIs (now (s .entry)) (45 ∷ drop at (now (s .entry))) end r ⌝ }
+{
+    let Natural::Is { value, next } = natural_at(s, at, end, 9223372036854775808) else {
+        return Whole::No;
+    };
+    if value == 0 {
+        return Whole::No;
+    }
+    // One less fits where the number itself may not: -1 - (value - 1).
+    let less = (value - 1) as i64;
+    let value = -1 - less;
+    Whole::Is { value, next }
 }
