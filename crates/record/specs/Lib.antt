@@ -4,3 +4,4 @@ pub mod Decimal
 pub mod Format
 pub mod Read
 pub mod ReadLaws
+pub mod LineLaws
