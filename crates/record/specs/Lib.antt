@@ -5,3 +5,4 @@ pub mod Format
 pub mod Read
 pub mod ReadLaws
 pub mod LineLaws
+pub mod RecordLaws

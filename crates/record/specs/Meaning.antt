@@ -1,4 +1,5 @@
 -- The bench record and its answer in bytes, as document 01's section "The bench program" has them.
+use mathlib.Core.Path.{_≡_}
 use mathlib.Core.Bool.{true, false}
 use mathlib.Core.List.{List, [], _∷_, _++_}
 use Prim.Native.Nat.{ℕ, zero, suc, _+_, _/_, _%_, _^_, _≤_, _<_}
@@ -6,6 +7,8 @@ use lib.Dec.{ltb}
 use lib.IntN.{ℤ, pos, negsuc}
 use lib.ListN.{length}
 use Rattle.exact.specs.Meaning.Number.{Ω}
+use Rattle.exact.specs.Meaning.Limits.{Accepted, Record as Malformed}
+use Rattle.record.specs.declared.Record.{Record}
 
 -- ---- a decimal number: no leading zeros, an optional minus, no -0
 -- the digits of n / 10, where there are any, and the last; f is no fewer than the digits
@@ -48,6 +51,43 @@ pub record RingInRange (x : Ω) : Type 0 where
   pub b-in : InRange (x .b)
   pub c-in : InRange (x .c)
   pub d-in : InRange (x .d)
+
+-- the bytes of a right record, and its numbers
+pub record RightRecord (s : List ℕ) (x : Numbers) : Type 0 where
+  pub is : s ≡ recordText x
+  pub k-in : InRange (x .k)
+  pub n-in : x .n ≤ 255
+  pub z-in : RingInRange (x .z)
+  pub w-in : RingInRange (x .w)
+
+-- ---- what reading answers
+abbrev pub numbers : Record → Numbers
+numbers r = record {
+  k = r .k;
+  n = r .n;
+  z = record { a = r .za; b = r .zb; c = r .zc; d = r .zd };
+  w = record { a = r .wa; b = r .wb; c = r .wc; d = r .wd };
+}
+
+abbrev pub refusedRecord : Record
+refusedRecord = record {
+  refusal = Malformed;
+  k = pos 0;
+  n = 0;
+  za = pos 0;
+  zb = pos 0;
+  zc = pos 0;
+  zd = pos 0;
+  wa = pos 0;
+  wb = pos 0;
+  wc = pos 0;
+  wd = pos 0;
+}
+
+-- accepted with the numbers of which the bytes are the text, or refused 8 where there are none
+pub data ReadOutcome (s : List ℕ) (r : Record) : Type 0 where
+  accepted : r .refusal ≡ Accepted → RightRecord s (numbers r) → ReadOutcome s r
+  refused : r ≡ refusedRecord → ((x : Numbers) → RightRecord s x → ⊥) → ReadOutcome s r
 
 -- ---- the answer: refusal number, word, its T letters, its length; when refused the word is empty, and both counts are 0
 abbrev pub answerLines : ℕ → List ℕ → ℕ → List ℕ

@@ -1,3 +1,77 @@
 // The bench record, read from a slice, and its answer, written to a slice, as document 01's "The bench program" has them to the byte.
 mod decimal;
 mod lines;
+use decimal::{Natural, Whole};
+use lines::Four;
+ghost use mathlib.Core.Path.{_≡_};
+ghost use Rattle.record.specs.Meaning.{refusedRecord, ReadOutcome};
+
+// What was read: refusal 0 and the numbers, or refusal 8 and zeros.
+pub struct Record {
+    pub refusal: u8,
+    pub k: i64,
+    pub n: u8,
+    pub za: i64,
+    pub zb: i64,
+    pub zc: i64,
+    pub zd: i64,
+    pub wa: i64,
+    pub wb: i64,
+    pub wc: i64,
+    pub wd: i64,
+}
+
+fn refused() -> Record
+    ensures { λ r. ⌜ r ≡ refusedRecord ⌝ }
+{
+    Record {
+        refusal: exact::RECORD,
+        k: 0,
+        n: 0,
+        za: 0,
+        zb: 0,
+        zc: 0,
+        zd: 0,
+        wa: 0,
+        wb: 0,
+        wc: 0,
+        wd: 0,
+    }
+}
+
+// The numbers of a right record; any other input, however long, is refused 8.
+pub fn read(s: &[u8]) -> Record
+    ensures { λ r. ⌜ ReadOutcome (now (s .entry)) r ⌝ }
+{
+    let Whole::Is { value: k, next: second } = lines::k_at(s, 0) else {
+        return refused();
+    };
+    let Natural::Is { value: n, next: third } = lines::n_at(s, second) else {
+        return refused();
+    };
+    let Four::Is { a: za, b: zb, c: zc, d: zd, next: fourth } = lines::ring_at(s, third, b'z')
+    else {
+        return refused();
+    };
+    let Four::Is { a: wa, b: wb, c: wc, d: wd, next: end } = lines::ring_at(s, fourth, b'w')
+    else {
+        return refused();
+    };
+    if end < s.len() {
+        return refused();
+    }
+    let n = n as u8;
+    Record {
+        refusal: exact::ACCEPTED,
+        k,
+        n,
+        za,
+        zb,
+        zc,
+        zd,
+        wa,
+        wb,
+        wc,
+        wd,
+    }
+}
