@@ -6,3 +6,4 @@ pub mod Read
 pub mod ReadLaws
 pub mod LineLaws
 pub mod RecordLaws
+pub mod Write

@@ -1,6 +1,7 @@
 // The bench record, read from a slice, and its answer, written to a slice, as document 01's "The bench program" has them to the byte.
 mod decimal;
 mod lines;
+mod text;
 use decimal::{Natural, Whole};
 use lines::Four;
 ghost use mathlib.Core.Path.{_≡_};
