@@ -7,3 +7,4 @@ pub mod ReadLaws
 pub mod LineLaws
 pub mod RecordLaws
 pub mod Write
+pub mod AnswerLaws

@@ -5,7 +5,7 @@ use mathlib.Core.List.{List, [], _∷_, _++_}
 use Prim.Native.Nat.{ℕ, zero, suc, _+_, _/_, _%_, _^_, _≤_, _<_}
 use lib.Dec.{ltb}
 use lib.IntN.{ℤ, pos, negsuc}
-use lib.ListN.{length}
+use lib.ListN.{length, drop}
 use Rattle.exact.specs.Meaning.Number.{Ω}
 use Rattle.exact.specs.Meaning.Limits.{Accepted, Record as Malformed}
 use Rattle.record.specs.declared.Record.{Record}
@@ -100,3 +100,8 @@ answerLines refusal word t =
 abbrev pub answerText : ℕ → List ℕ → ℕ → List ℕ
 answerText zero word t = answerLines zero word t
 answerText (suc r) word t = answerLines (suc r) [] 0
+
+-- the answer's text, its size, and the bytes beyond as before
+pub record WriteOutcome (refusal : ℕ) (word : List ℕ) (t : ℕ) (old new : List ℕ) (size : ℕ) : Type 0 where
+  pub is-size : size ≡ length (answerText refusal word t)
+  pub is : new ≡ answerText refusal word t ++ drop size old

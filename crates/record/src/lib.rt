@@ -5,7 +5,11 @@ mod text;
 use decimal::{Natural, Whole};
 use lines::Four;
 ghost use mathlib.Core.Path.{_≡_};
-ghost use Rattle.record.specs.Meaning.{refusedRecord, ReadOutcome};
+ghost use Prim.Native.Nat.{_≤_};
+ghost use lib.ListN.{length};
+ghost use Rattle.exact.specs.Meaning.Limits.{enough};
+ghost use Rattle.record.specs.Meaning.{refusedRecord, ReadOutcome, answerLines, WriteOutcome};
+ghost use Rattle.record.specs.Write.{Written};
 
 // What was read: refusal 0 and the numbers, or refusal 8 and zeros.
 pub struct Record {
@@ -75,4 +79,25 @@ pub fn read(s: &[u8]) -> Record
         wc,
         wd,
     }
+}
+
+fn answer(refusal: u8, word: &[u8], t: u64, out: &mut [u8]) -> usize
+    requires { ⌜ (length (now word) ≤ enough) × (512 ≤ length (now out)) ⌝ }
+    ensures { λ r. ⌜ Written (now (out .entry)) 0 (answerLines refusal (now (word .entry)) t) (now (out .exit)) r ⌝ }
+{
+    let second = text::number_line(out, 0, b"refusal=", refusal as u64);
+    let third = text::bytes_line(out, second, b"word=", word);
+    let fourth = text::number_line(out, third, b"t=", t);
+    text::number_line(out, fourth, b"bytes=", word.len() as u64)
+}
+
+// The answer's text from the start of `out`, and its size; when refused the word is empty, and both counts are 0.
+pub fn write(refusal: u8, word: &[u8], t: u64, out: &mut [u8]) -> usize
+    requires { ⌜ (length (now word) ≤ enough) × (512 ≤ length (now out)) ⌝ }
+    ensures { λ r. ⌜ WriteOutcome refusal (now (word .entry)) t (now (out .entry)) (now (out .exit)) r ⌝ }
+{
+    if refusal == exact::ACCEPTED {
+        return answer(refusal, word, t, out);
+    }
+    answer(refusal, b"", 0, out)
 }
