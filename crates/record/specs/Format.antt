@@ -44,15 +44,15 @@ module _ {A B : Type 0} (F : Format A) (G : Format B) where
   pub missing-second : {l s : List ℕ} {a : A} {i : ℕ} → Once F → Found F l s a i → Missing G (drop i s) → Missing before l
   missing-second {l} {s} {a} {i} o f m = record {
     none = λ p rest ok e.
-      m .none (p .1) rest (ok .1) (o .once a (p .0) (drop i s) (G .show (p .1) ++ rest) (sym (f .is) ∙ e ∙ append-assoc (F .show (p .0)) (G .show (p .1)) rest) .1)
+        m .none (p .1) rest (ok .1) (o .once a (p .0) (drop i s) (G .show (p .1) ++ rest) (sym (f .is) ∙ e ∙ append-assoc (F .show (p .0)) (G .show (p .1)) rest) .1);
   }
 
   pub once-both : Once F → Once G → Once before
   once-both o q = record {
     once = λ p p′ r t e.
-      let first = o .once (p .0) (p′ .0) (G .show (p .1) ++ r) (G .show (p′ .1) ++ t) (sym (append-assoc (F .show (p .0)) (G .show (p .1)) r) ∙ e ∙ append-assoc (F .show (p′ .0)) (G .show (p′ .1)) t) in
-      let second = q .once (p .1) (p′ .1) r t (first .1) in
-      (ap₂ (λ a b. (a, b)) (first .0) (second .0), second .1)
+        let first = o .once (p .0) (p′ .0) (G .show (p .1) ++ r) (G .show (p′ .1) ++ t) (sym (append-assoc (F .show (p .0)) (G .show (p .1)) r) ∙ e ∙ append-assoc (F .show (p′ .0)) (G .show (p′ .1)) t) in
+        let second = q .once (p .1) (p′ .1) r t (first .1) in
+        (ap₂ (λ a b. (a, b)) (first .0) (second .0), second .1);
   }
 
 -- ---- the pieces

@@ -8,3 +8,5 @@ pub mod LineLaws
 pub mod RecordLaws
 pub mod Write
 pub mod AnswerLaws
+pub mod Longest
+mod Cases

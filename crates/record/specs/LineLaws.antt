@@ -31,7 +31,7 @@ module _ (s : List ℕ) (at name : ℕ) where
   pub name-short : at < length s → length s ≤ at + 1 → Missing (named name) (drop at s)
   name-short h l = record {
     none = λ u rest ok p.
-      let q : 0 ≡ suc (length rest) = ap length (sym (drop-of-length-le s l) ∙ cons-tail (sym (byte-and s at h) ∙ p)) in omega arith
+        let q : 0 ≡ suc (length rest) = ap length (sym (drop-of-length-le s l) ∙ cons-tail (sym (byte-and s at h) ∙ p)) in omega arith;
   }
 
   module _ (h : at < length s) (l : at + 1 < length s) where

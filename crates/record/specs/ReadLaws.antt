@@ -96,8 +96,8 @@ module _ (s : List ℕ) (at most e : ℕ) (l : e < 48) where
   pub natural-first : at < length s → (First (getD s at 0) most → ⊥) → Missing (natural most e) (drop at s)
   natural-first h f = record {
     none = λ n rest ok p.
-      let w = first-of n (getD s at 0) ((e ∷ []) ++ rest) (drop (at + 1) s) (sym (append-assoc (digits n) (e ∷ []) rest) ∙ sym p ∙ byte-and s at h) in
-      f (record { digit = w .digit; least = omega (arith, w .least) })
+        let w = first-of n (getD s at 0) ((e ∷ []) ++ rest) (drop (at + 1) s) (sym (append-assoc (digits n) (e ∷ []) rest) ∙ sym p ∙ byte-and s at h) in
+        f (record { digit = w .digit; least = omega (arith, w .least) });
   }
 
 -- ---- with a sign

@@ -74,7 +74,7 @@ pub putting-more : (old : List ℕ) (at : ℕ) (src now : List ℕ) (i : ℕ) �
 putting-more old at src now i p h = record {
   within = omega arith;
   done = subst₂ (λ t j. Written old at t (set now (at + i) (getD src i 0)) j) (sym (ap (λ j. take j src) (add-one i) ∙ take-suc src i 0 h)) (omega arith)
-    (written-both old now (set now (at + i) (getD src i 0)) at (at + i) (at + i + 1) (take i src) (getD src i 0 ∷ []) (p .done) (written-byte now (at + i) (getD src i 0)));
+      (written-both old now (set now (at + i) (getD src i 0)) at (at + i) (at + i + 1) (take i src) (getD src i 0 ∷ []) (p .done) (written-byte now (at + i) (getD src i 0)));
 }
 
 pub putting-all : (old : List ℕ) (at : ℕ) (src now : List ℕ) (i : ℕ) → Putting old at src now i → length src ≤ i → Written old at src now (at + i)

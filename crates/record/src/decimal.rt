@@ -39,20 +39,20 @@ fn wide(b: u8) -> u64
     b as u64
 }
 
-// One digit more: not after a leading zero, and not past `most`.
-fn push(value: u64, b: u8, most: u64) -> Step
-    ensures { λ r. ⌜ PushIs value b most r ⌝ }
+// One digit more after those of `front`: not after a leading zero, and not past `most`.
+fn push(front: u64, b: u8, most: u64) -> Step
+    ensures { λ r. ⌜ PushIs front b most r ⌝ }
 {
-    if value == 0 {
+    if front == 0 {
         return Step::Stop;
     }
     let Step::More(d) = digit(b, 9) else {
         return Step::Stop;
     };
-    if value > most / 10 {
+    if front > most / 10 {
         return Step::Stop;
     }
-    let tens = value * 10;
+    let tens = front * 10;
     if d > most - tens {
         return Step::Stop;
     }

@@ -2,7 +2,9 @@
 mod decimal;
 mod lines;
 mod text;
-use decimal::{Natural, Whole};
+
+use decimal::Natural;
+use decimal::Whole;
 use lines::Four;
 ghost use mathlib.Core.Path.{_≡_};
 ghost use Prim.Native.Nat.{_≤_};
@@ -10,6 +12,9 @@ ghost use lib.ListN.{length};
 ghost use Rattle.exact.specs.Meaning.Limits.{enough};
 ghost use Rattle.record.specs.Meaning.{refusedRecord, ReadOutcome, answerLines, WriteOutcome};
 ghost use Rattle.record.specs.Write.{Written};
+
+// The bytes of the longest right record: whoever has read more can stop, and the answer is 8.
+pub const LONGEST_RECORD: usize = 201;
 
 // What was read: refusal 0 and the numbers, or refusal 8 and zeros.
 pub struct Record {
@@ -48,17 +53,37 @@ fn refused() -> Record
 pub fn read(s: &[u8]) -> Record
     ensures { λ r. ⌜ ReadOutcome (now (s .entry)) r ⌝ }
 {
-    let Whole::Is { value: k, next: second } = lines::k_at(s, 0) else {
-        return refused();
-    };
-    let Natural::Is { value: n, next: third } = lines::n_at(s, second) else {
-        return refused();
-    };
-    let Four::Is { a: za, b: zb, c: zc, d: zd, next: fourth } = lines::ring_at(s, third, b'z')
+    let Whole::Is {
+        value: k,
+        next: second,
+    } = lines::k_at(s, 0)
     else {
         return refused();
     };
-    let Four::Is { a: wa, b: wb, c: wc, d: wd, next: end } = lines::ring_at(s, fourth, b'w')
+    let Natural::Is {
+        value: n,
+        next: third,
+    } = lines::n_at(s, second)
+    else {
+        return refused();
+    };
+    let Four::Is {
+        a: za,
+        b: zb,
+        c: zc,
+        d: zd,
+        next: fourth,
+    } = lines::ring_at(s, third, b'z')
+    else {
+        return refused();
+    };
+    let Four::Is {
+        a: wa,
+        b: wb,
+        c: wc,
+        d: wd,
+        next: end,
+    } = lines::ring_at(s, fourth, b'w')
     else {
         return refused();
     };

@@ -1,6 +1,7 @@
 // The record's lines: a name and `=`, then a number or four, then LF.
 use crate::decimal;
-use crate::decimal::{Natural, Whole};
+use crate::decimal::Natural;
+use crate::decimal::Whole;
 ghost use Prim.Native.Nat.{_<_};
 ghost use lib.ListN.{drop};
 ghost use Rattle.record.specs.Read.{NameIs, FourIs, RingIs, KIs, NIs};
@@ -45,13 +46,25 @@ fn name_at(s: &[u8], at: usize, name: u8) -> Name
 fn four_at(s: &[u8], at: usize) -> Four
     ensures { λ r. ⌜ FourIs (now (s .entry)) (drop at (now (s .entry))) r ⌝ }
 {
-    let Whole::Is { value: a, next: second } = decimal::whole_at(s, at, b',') else {
+    let Whole::Is {
+        value: a,
+        next: second,
+    } = decimal::whole_at(s, at, b',')
+    else {
         return Four::No;
     };
-    let Whole::Is { value: b, next: third } = decimal::whole_at(s, second, b',') else {
+    let Whole::Is {
+        value: b,
+        next: third,
+    } = decimal::whole_at(s, second, b',')
+    else {
         return Four::No;
     };
-    let Whole::Is { value: c, next: fourth } = decimal::whole_at(s, third, b',') else {
+    let Whole::Is {
+        value: c,
+        next: fourth,
+    } = decimal::whole_at(s, third, b',')
+    else {
         return Four::No;
     };
     let Whole::Is { value: d, next } = decimal::whole_at(s, fourth, b'\n') else {

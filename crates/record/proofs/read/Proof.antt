@@ -1,3 +1,4 @@
+-- `read` meets its contract: where a line is missing no numbers have the input as their text, and where all are found these have. Assumes nothing.
 use mathlib.Core.Path.{refl, subst}
 use Prim.Native.Nat.{ℕ}
 use native.Mathlib.Omega.{arith}
@@ -12,12 +13,6 @@ use Rattle.record.specs.RecordLaws.{lines, allLines, nzwLines, zwLines, 
 use borrow.Author.Needs.{needs}
 use Rattle.record.proofs.read.Statement.{statement}
 use Rattle.record.proofs.read.Tie as tie
-use Rattle.record.proofs.read.Reads as reads
-use Rattle.record.proofs.read.Lts as lts
-use Rattle.record.proofs.lines.k_at.Reads as k-at-reads
-use Rattle.record.proofs.lines.n_at.Reads as n-at-reads
-use Rattle.record.proofs.lines.ring_at.Reads as ring-at-reads
-use Rattle.record.proofs.refused.Reads as refused-reads
 
 first : (c : tie.After-known-told) → Found kLine (drop 0 (now (c .before .before .before .before .before .args .s))) (now (c .before .before .before .before .before .args .s)) (tt, c .before .k .given .0 .0) (c .before .k .given .0 .1 .0)
 first c = subst (KIs (now (c .before .before .before .before .before .args .s)) (drop 0 (now (c .before .before .before .before .before .args .s)))) (c .before .k .given .1) (c .before .before .before .k-at .ensures)
@@ -38,99 +33,75 @@ got c = record { k = c .before .before .before .before .before .before .before .
 all : (c : tie.After-known-told4) → Found allLines (now (c .before .before .before .before .before .before .before .before .before .before .before .before .before .before .before .before .before .args .s)) (now (c .before .before .before .before .before .before .before .before .before .before .before .before .before .before .before .before .before .args .s)) (lines (got c)) (c .before .wa .given .0 .1 .1 .1 .1 .0)
 all c = found-both kLine nzwLines (first (c .before .before .before .before .before .before .before .before .before .before .before .before)) (found-both nLine zwLines (second (c .before .before .before .before .before .before .before .before)) (found-both (ringLine 122) (ringLine 119) (third (c .before .before .before .before)) (fourth c)))
 
--- src/lib.rt:46:48
 k-at-requires : tie.Need-k-at-requires
 k-at-requires c κs = search needs
 
--- src/lib.rt:46:28
 enum-known-k : tie.Need-enum-known-k
 enum-known-k c = search needs
 
--- src/lib.rt:47:9
 enum-told : tie.Need-enum-told
 enum-told c = search needs
 
--- src/lib.rt:47:9
 refused-requires : tie.Need-refused-requires
 refused-requires c κs = search needs
 
--- src/lib.rt:47:9
 returns : tie.Need-returns
 returns c = refused (c .refused .ensures) (no-record (now (c .before .before .before .before .before .args .s)) (missing-first kLine nzwLines (subst (KIs (now (c .before .before .before .before .before .args .s)) (drop 0 (now (c .before .before .before .before .before .args .s)))) (c .before .enum-told .given .1) (c .before .before .before .k-at .ensures))))
 
--- src/lib.rt:49:49
 n-at-requires : tie.Need-n-at-requires
 n-at-requires c κs = search needs
 
--- src/lib.rt:49:30
 enum-known-n : tie.Need-enum-known-n
 enum-known-n c = search needs
 
--- src/lib.rt:50:9
 enum-told-2 : tie.Need-enum-told-2
 enum-told-2 c = search needs
 
--- src/lib.rt:50:9
 refused-requires-2 : tie.Need-refused-requires-2
 refused-requires-2 c κs = search needs
 
--- src/lib.rt:50:9
 returns-2 : tie.Need-returns-2
 returns-2 c = refused (c .refused2 .ensures) (no-record (now (c .before .before .before .before .before .before .before .before .before .args .s)) (missing-second kLine nzwLines once-k (first (c .before .before .before .before)) (missing-first nLine zwLines (subst (NIs (now (c .before .before .before .before .before .before .before .before .before .args .s)) (drop (c .before .before .before .before .before .k .given .0 .1 .0) (now (c .before .before .before .before .before .before .before .before .before .args .s)))) (c .before .enum-told2 .given .1) (c .before .before .before .n-at .ensures)))))
 
--- src/lib.rt:52:65
 ring-at-requires : tie.Need-ring-at-requires
 ring-at-requires c κs = search needs
 
--- src/lib.rt:52:23
 enum-known-za : tie.Need-enum-known-za
 enum-known-za c = search needs
 
--- src/lib.rt:54:9
 enum-told-3 : tie.Need-enum-told-3
 enum-told-3 c = search needs
 
--- src/lib.rt:54:9
 refused-requires-3 : tie.Need-refused-requires-3
 refused-requires-3 c κs = search needs
 
--- src/lib.rt:54:9
 returns-3 : tie.Need-returns-3
 returns-3 c = refused (c .refused3 .ensures) (no-record (now (c .before .before .before .before .before .before .before .before .before .before .before .before .before .args .s)) (missing-second kLine nzwLines once-k (first (c .before .before .before .before .before .before .before .before)) (missing-second nLine zwLines once-n (second (c .before .before .before .before)) (missing-first (ringLine 122) (ringLine 119) (subst (RingIs (now (c .before .before .before .before .before .before .before .before .before .before .before .before .before .args .s)) (drop (c .before .before .before .before .before .n .given .0 .1 .0) (now (c .before .before .before .before .before .before .before .before .before .before .before .before .before .args .s))) 122) (c .before .enum-told3 .given .1) (c .before .before .before .ring-at .ensures))))))
 
--- src/lib.rt:56:62
 ring-at-requires-2 : tie.Need-ring-at-requires-2
 ring-at-requires-2 c κs = search needs
 
--- src/lib.rt:56:23
 enum-known-wa : tie.Need-enum-known-wa
 enum-known-wa c = search needs
 
--- src/lib.rt:58:9
 enum-told-4 : tie.Need-enum-told-4
 enum-told-4 c = search needs
 
--- src/lib.rt:58:9
 refused-requires-4 : tie.Need-refused-requires-4
 refused-requires-4 c κs = search needs
 
--- src/lib.rt:58:9
 returns-4 : tie.Need-returns-4
 returns-4 c = refused (c .refused4 .ensures) (no-record (now (c .before .before .before .before .before .before .before .before .before .before .before .before .before .before .before .before .before .args .s)) (missing-second kLine nzwLines once-k (first (c .before .before .before .before .before .before .before .before .before .before .before .before)) (missing-second nLine zwLines once-n (second (c .before .before .before .before .before .before .before .before)) (missing-second (ringLine 122) (ringLine 119) (once-ring 122) (third (c .before .before .before .before)) (subst (RingIs (now (c .before .before .before .before .before .before .before .before .before .before .before .before .before .before .before .before .before .args .s)) (drop (c .before .before .before .before .before .za .given .0 .1 .1 .1 .1 .0) (now (c .before .before .before .before .before .before .before .before .before .before .before .before .before .before .before .before .before .args .s))) 119) (c .before .enum-told4 .given .1) (c .before .before .before .ring-at2 .ensures))))))
 
--- src/lib.rt:61:9
 refused-requires-5 : tie.Need-refused-requires-5
 refused-requires-5 c κs = search needs
 
--- src/lib.rt:61:9
 returns-5 : tie.Need-returns-5
 returns-5 c = refused (c .refused5 .ensures) (more-behind (now (c .before .before .before .before .before .before .before .before .before .before .before .before .before .before .before .before .before .before .before .args .s)) (lines (got (c .before .before))) (c .before .before .before .wa .given .0 .1 .1 .1 .1 .0) (all (c .before .before)) (c .before .if1 .taken))
 
--- src/lib.rt:63:13
 cast-n : tie.Need-cast-n
 cast-n c = omega (arith, second (c .before .before .before .before .before .before .before .before .before) .fine .1)
 
--- src/lib.rt:43:1
 returns-6 : tie.Need-returns-6
 returns-6 c =
     let p = c .before .before .before .before .before .before .before .before .before .before .before .before .before .before .k .given .0 in

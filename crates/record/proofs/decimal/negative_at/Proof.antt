@@ -1,3 +1,4 @@
+-- `decimal::negative_at` meets its contract: behind a minus stands a number from 1 to 2^63. Assumes nothing.
 use mathlib.Core.Path.{_≡_, sym, subst}
 use mathlib.Core.List.{_∷_}
 use Prim.Native.Nat.{ℕ, suc, _-_, _<_, _^_}
@@ -10,9 +11,6 @@ use Rattle.record.specs.ReadLaws.{negative-none, negative-zero, negative
 use borrow.Author.Needs.{needs}
 use Rattle.record.proofs.decimal.negative_at.Statement.{statement}
 use Rattle.record.proofs.decimal.negative_at.Tie as tie
-use Rattle.record.proofs.decimal.negative_at.Reads as reads
-use Rattle.record.proofs.decimal.negative_at.Lts as lts
-use Rattle.record.proofs.decimal.natural_at.Reads as natural-at-reads
 
 found : (c : tie.After-known-told) → Found (natural (2 ^ 63) (c .before .before .before .before .before .args .end)) (drop (c .before .before .before .before .before .args .at) (now (c .before .before .before .before .before .args .s))) (now (c .before .before .before .before .before .args .s)) (c .before .value .given .0 .0) (c .before .value .given .0 .1 .0)
 found c =
@@ -22,26 +20,21 @@ found c =
 less : (c : tie.After-known-told) → (c .before .value .given .0 .0 ≡ 0 → ⊥) → c .before .value .given .0 .0 - 1 < 2 ^ 63
 less c h = omega (arith, found c .fine)
 
--- src/decimal.rt:125:39
 natural-at-requires : tie.Need-natural-at-requires
 natural-at-requires c κs = search needs
 
--- src/decimal.rt:125:23
 enum-known-value : tie.Need-enum-known-value
 enum-known-value c = search needs
 
--- src/decimal.rt:126:9
 enum-told : tie.Need-enum-told
 enum-told c = search needs
 
--- src/decimal.rt:126:9
 returns : tie.Need-returns
 returns c =
     let a = c .before .before .before .before .args in
     let l = drop (a .at) (now (a .s)) in
     negative-none l (a .end) (subst (NaturalIs (now (a .s)) l (a .end) (2 ^ 63)) (c .enum-told .given .1) (c .before .before .natural-at .ensures))
 
--- src/decimal.rt:129:9
 returns-2 : tie.Need-returns-2
 returns-2 c =
     let a = c .before .before .before .before .before .before .args in
@@ -49,19 +42,15 @@ returns-2 c =
     let v = c .before .before .value .given in
     negative-zero l (a .end) (now (a .s)) (v .0 .0) (v .0 .1 .0) (c .before .before .before .before .before .before .pre) (c .if1 .taken) (found (c .before))
 
--- src/decimal.rt:132:17
 sub-less : tie.Need-sub-less
 sub-less c = search needs
 
--- src/decimal.rt:132:16
 cast-less : tie.Need-cast-less
 cast-less c = record { sfits = less (c .before) (c .if1 .left) }
 
--- src/decimal.rt:133:17
 sub-value : tie.Need-sub-value
 sub-value c = less-fits (c .before .before .value .given .0 .0 - 1) (less (c .before) (c .if1 .left))
 
--- src/decimal.rt:121:1
 returns-3 : tie.Need-returns-3
 returns-3 c =
     let a = c .before .before .before .before .before .before .args in

@@ -1,3 +1,4 @@
+-- `decimal::positive_at` meets its contract: a text with no minus is that of a number from 0, and that fits. Assumes nothing.
 use mathlib.Core.Path.{sym, subst}
 use Prim.Native.Nat.{_-_, _^_}
 use native.Mathlib.Omega.{arith}
@@ -9,39 +10,30 @@ use Rattle.record.specs.ReadLaws.{no-minus, positive-none, positive-foun
 use borrow.Author.Needs.{needs}
 use Rattle.record.proofs.decimal.positive_at.Statement.{statement}
 use Rattle.record.proofs.decimal.positive_at.Tie as tie
-use Rattle.record.proofs.decimal.positive_at.Reads as reads
-use Rattle.record.proofs.decimal.positive_at.Lts as lts
-use Rattle.record.proofs.decimal.natural_at.Reads as natural-at-reads
 
 found : (c : tie.After-known-told) → Found (natural (2 ^ 63 - 1) (c .before .before .before .before .before .args .end)) (drop (c .before .before .before .before .before .args .at) (now (c .before .before .before .before .before .args .s))) (now (c .before .before .before .before .before .args .s)) (c .before .value .given .0 .0) (c .before .value .given .0 .1 .0)
 found c =
     let a = c .before .before .before .before .before .args in
     subst (NaturalIs (now (a .s)) (drop (a .at) (now (a .s))) (a .end) (2 ^ 63 - 1)) (c .before .value .given .1) (c .before .before .before .natural-at .ensures)
 
--- src/decimal.rt:113:39
 natural-at-requires : tie.Need-natural-at-requires
 natural-at-requires c κs = search needs
 
--- src/decimal.rt:113:23
 enum-known-value : tie.Need-enum-known-value
 enum-known-value c = search needs
 
--- src/decimal.rt:114:9
 enum-told : tie.Need-enum-told
 enum-told c = search needs
 
--- src/decimal.rt:114:9
 returns : tie.Need-returns
 returns c =
     let a = c .before .before .before .before .args in
     let l = drop (a .at) (now (a .s)) in
     positive-none l (a .end) (no-minus (now (a .s)) (a .at) (c .before .before .before .before .pre .1) (c .before .before .before .before .pre .2)) (subst (NaturalIs (now (a .s)) l (a .end) (2 ^ 63 - 1)) (c .enum-told .given .1) (c .before .before .natural-at .ensures))
 
--- src/decimal.rt:116:17
 cast-value : tie.Need-cast-value
 cast-value c = record { sfits = omega (arith, found c .fine) }
 
--- src/decimal.rt:109:1
 returns-2 : tie.Need-returns-2
 returns-2 c =
     let a = c .before .before .before .before .before .args in

@@ -1,3 +1,4 @@
+-- `lines::four_at` meets its contract: each number that is found leaves the rest to be found. Assumes nothing.
 use mathlib.Core.Path.{subst}
 use Prim.Native.Nat.{_<_}
 use native.Mathlib.Omega.{arith}
@@ -10,9 +11,6 @@ use Rattle.record.specs.LineLaws.{held}
 use borrow.Author.Needs.{needs}
 use Rattle.record.proofs.lines.four_at.Statement.{statement}
 use Rattle.record.proofs.lines.four_at.Tie as tie
-use Rattle.record.proofs.lines.four_at.Reads as reads
-use Rattle.record.proofs.lines.four_at.Lts as lts
-use Rattle.record.proofs.decimal.whole_at.Reads as whole-at-reads
 
 abbrev part : Format ℤ
 part = whole 44
@@ -38,71 +36,54 @@ third c = subst (WholeIs (now (c .before .before .before .before .before .before
 fourth : (c : tie.After-known-told4) → Found (whole 10) (drop (c .before .before .before .before .before .c .given .0 .1 .0) (now (c .before .before .before .before .before .before .before .before .before .before .before .before .before .before .before .before .before .args .s))) (now (c .before .before .before .before .before .before .before .before .before .before .before .before .before .before .before .before .before .args .s)) (c .before .d .given .0 .0) (c .before .d .given .0 .1 .0)
 fourth c = subst (WholeIs (now (c .before .before .before .before .before .before .before .before .before .before .before .before .before .before .before .before .before .args .s)) (drop (c .before .before .before .before .before .c .given .0 .1 .0) (now (c .before .before .before .before .before .before .before .before .before .before .before .before .before .before .before .before .before .args .s))) 10) (c .before .d .given .1) (c .before .before .before .whole-at4 .ensures)
 
--- src/lines.rt:48:48
 whole-at-requires : tie.Need-whole-at-requires
 whole-at-requires c κs = search needs
 
--- src/lines.rt:48:28
 enum-known-a : tie.Need-enum-known-a
 enum-known-a c = search needs
 
--- src/lines.rt:49:9
 enum-told : tie.Need-enum-told
 enum-told c = search needs
 
--- src/lines.rt:49:9
 returns : tie.Need-returns
 returns c = missing-first part three (subst (WholeIs (now (c .before .before .before .before .args .s)) (drop (c .before .before .before .before .args .at) (now (c .before .before .before .before .args .s))) 44) (c .enum-told .given .1) (c .before .before .whole-at .ensures))
 
--- src/lines.rt:51:47
 whole-at-requires-2 : tie.Need-whole-at-requires-2
 whole-at-requires-2 c κs = search needs
 
--- src/lines.rt:51:28
 enum-known-b : tie.Need-enum-known-b
 enum-known-b c = search needs
 
--- src/lines.rt:52:9
 enum-told-2 : tie.Need-enum-told-2
 enum-told-2 c = search needs
 
--- src/lines.rt:52:9
 returns-2 : tie.Need-returns-2
 returns-2 c = missing-second part three parted (first (c .before .before .before)) (missing-first part two (subst (WholeIs (now (c .before .before .before .before .before .before .before .before .args .s)) (drop (c .before .before .before .before .a .given .0 .1 .0) (now (c .before .before .before .before .before .before .before .before .args .s))) 44) (c .enum-told2 .given .1) (c .before .before .whole-at2 .ensures)))
 
--- src/lines.rt:54:48
 whole-at-requires-3 : tie.Need-whole-at-requires-3
 whole-at-requires-3 c κs = search needs
 
--- src/lines.rt:54:28
 enum-known-c : tie.Need-enum-known-c
 enum-known-c c = search needs
 
--- src/lines.rt:55:9
 enum-told-3 : tie.Need-enum-told-3
 enum-told-3 c = search needs
 
--- src/lines.rt:55:9
 returns-3 : tie.Need-returns-3
 returns-3 c = missing-second part three parted (first (c .before .before .before .before .before .before .before)) (missing-second part two parted (second (c .before .before .before)) (missing-first part (whole 10) (subst (WholeIs (now (c .before .before .before .before .before .before .before .before .before .before .before .before .args .s)) (drop (c .before .before .before .before .b .given .0 .1 .0) (now (c .before .before .before .before .before .before .before .before .before .before .before .before .args .s))) 44) (c .enum-told3 .given .1) (c .before .before .whole-at3 .ensures))))
 
--- src/lines.rt:57:40
 whole-at-requires-4 : tie.Need-whole-at-requires-4
 whole-at-requires-4 c κs = search needs
 
--- src/lines.rt:57:28
 enum-known-d : tie.Need-enum-known-d
 enum-known-d c = search needs
 
--- src/lines.rt:58:9
 enum-told-4 : tie.Need-enum-told-4
 enum-told-4 c = search needs
 
--- src/lines.rt:58:9
 returns-4 : tie.Need-returns-4
 returns-4 c = missing-second part three parted (first (c .before .before .before .before .before .before .before .before .before .before .before)) (missing-second part two parted (second (c .before .before .before .before .before .before .before)) (missing-second part (whole 10) parted (third (c .before .before .before)) (subst (WholeIs (now (c .before .before .before .before .before .before .before .before .before .before .before .before .before .before .before .before .args .s)) (drop (c .before .before .before .before .c .given .0 .1 .0) (now (c .before .before .before .before .before .before .before .before .before .before .before .before .before .before .before .before .args .s))) 10) (c .enum-told4 .given .1) (c .before .before .whole-at4 .ensures))))
 
--- src/lines.rt:45:1
 returns-5 : tie.Need-returns-5
 returns-5 c =
     let p = first (c .before .before .before .before .before .before .before .before .before .before .before .before) in

@@ -1,3 +1,4 @@
+-- `lines::k_at` meets its contract: the name, then the number. Assumes nothing.
 use mathlib.Core.Path.{subst}
 use denote.Ref.{now}
 use lib.ListN.{drop}
@@ -7,35 +8,25 @@ use Rattle.record.specs.LineLaws.{k-is}
 use borrow.Author.Needs.{needs}
 use Rattle.record.proofs.lines.k_at.Statement.{statement}
 use Rattle.record.proofs.lines.k_at.Tie as tie
-use Rattle.record.proofs.lines.k_at.Reads as reads
-use Rattle.record.proofs.lines.k_at.Lts as lts
-use Rattle.record.proofs.decimal.whole_at.Reads as whole-at-reads
-use Rattle.record.proofs.lines.name_at.Reads as name-at-reads
 
--- src/lines.rt:75:31
 name-at-requires : tie.Need-name-at-requires
 name-at-requires c κs = search needs
 
--- src/lines.rt:75:22
 enum-known-value : tie.Need-enum-known-value
 enum-known-value c = search needs
 
--- src/lines.rt:76:9
 enum-told : tie.Need-enum-told
 enum-told c = search needs
 
--- src/lines.rt:76:9
 returns : tie.Need-returns
 returns c =
     let a = c .before .before .before .before .args in
     let l = drop (a .at) (now (a .s)) in
     missing-first (named 107) (whole 10) (subst (NameIs (now (a .s)) l 107) (c .enum-told .given .1) (c .before .before .name-at .ensures))
 
--- src/lines.rt:78:5
 whole-at-requires : tie.Need-whole-at-requires
 whole-at-requires c κs = search needs
 
--- src/lines.rt:72:1
 returns-2 : tie.Need-returns-2
 returns-2 c =
     let a = c .before .before .before .before .before .before .args in

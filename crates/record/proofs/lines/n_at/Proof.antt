@@ -1,3 +1,4 @@
+-- `lines::n_at` meets its contract: the name, then the number. Assumes nothing.
 use mathlib.Core.Path.{subst}
 use denote.Ref.{now}
 use lib.ListN.{drop}
@@ -7,35 +8,25 @@ use Rattle.record.specs.LineLaws.{n-is}
 use borrow.Author.Needs.{needs}
 use Rattle.record.proofs.lines.n_at.Statement.{statement}
 use Rattle.record.proofs.lines.n_at.Tie as tie
-use Rattle.record.proofs.lines.n_at.Reads as reads
-use Rattle.record.proofs.lines.n_at.Lts as lts
-use Rattle.record.proofs.decimal.natural_at.Reads as natural-at-reads
-use Rattle.record.proofs.lines.name_at.Reads as name-at-reads
 
--- src/lines.rt:84:31
 name-at-requires : tie.Need-name-at-requires
 name-at-requires c κs = search needs
 
--- src/lines.rt:84:22
 enum-known-value : tie.Need-enum-known-value
 enum-known-value c = search needs
 
--- src/lines.rt:85:9
 enum-told : tie.Need-enum-told
 enum-told c = search needs
 
--- src/lines.rt:85:9
 returns : tie.Need-returns
 returns c =
     let a = c .before .before .before .before .args in
     let l = drop (a .at) (now (a .s)) in
     missing-first (named 110) (natural 255 10) (subst (NameIs (now (a .s)) l 110) (c .enum-told .given .1) (c .before .before .name-at .ensures))
 
--- src/lines.rt:87:5
 natural-at-requires : tie.Need-natural-at-requires
 natural-at-requires c κs = search needs
 
--- src/lines.rt:81:1
 returns-2 : tie.Need-returns-2
 returns-2 c =
     let a = c .before .before .before .before .before .before .args in

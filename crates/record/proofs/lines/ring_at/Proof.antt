@@ -1,3 +1,4 @@
+-- `lines::ring_at` meets its contract: the name, then the four numbers. Assumes nothing.
 use mathlib.Core.Path.{subst}
 use denote.Ref.{now}
 use lib.ListN.{drop}
@@ -7,35 +8,25 @@ use Rattle.record.specs.LineLaws.{ring-is}
 use borrow.Author.Needs.{needs}
 use Rattle.record.proofs.lines.ring_at.Statement.{statement}
 use Rattle.record.proofs.lines.ring_at.Tie as tie
-use Rattle.record.proofs.lines.ring_at.Reads as reads
-use Rattle.record.proofs.lines.ring_at.Lts as lts
-use Rattle.record.proofs.lines.four_at.Reads as four-at-reads
-use Rattle.record.proofs.lines.name_at.Reads as name-at-reads
 
--- src/lines.rt:66:31
 name-at-requires : tie.Need-name-at-requires
 name-at-requires c κs = search needs
 
--- src/lines.rt:66:22
 enum-known-value : tie.Need-enum-known-value
 enum-known-value c = search needs
 
--- src/lines.rt:67:9
 enum-told : tie.Need-enum-told
 enum-told c = search needs
 
--- src/lines.rt:67:9
 returns : tie.Need-returns
 returns c =
     let a = c .before .before .before .before .args in
     let l = drop (a .at) (now (a .s)) in
     missing-first (named (a .name)) fourNumbers (subst (NameIs (now (a .s)) l (a .name)) (c .enum-told .given .1) (c .before .before .name-at .ensures))
 
--- src/lines.rt:69:5
 four-at-requires : tie.Need-four-at-requires
 four-at-requires c κs = search needs
 
--- src/lines.rt:63:1
 returns-2 : tie.Need-returns-2
 returns-2 c =
     let a = c .before .before .before .before .before .before .args in

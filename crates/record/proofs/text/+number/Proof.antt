@@ -1,3 +1,4 @@
+-- The proof of the cycle of calls {text::number}. The measure is the number. The tenth's digits and the last are the number's. Assumes nothing.
 use native.Mathlib.Omega.{arith}
 use denote.Ref.{now}
 use lib.ListN.{length, length-set}
@@ -21,7 +22,6 @@ number-at t = and 1 number-kinds.ps (is 1 number-kinds.ps μ-number t) number.Pr
 abbrev number-below : ℕ → In 1 number-kinds.ps
 number-below t = and 1 number-kinds.ps (falls 1 number-kinds.ps _<_ μ-number t) number.Pre
 
--- src/text.rt:34:19
 number-digit-of-requires : (t : ℕ) → number-lts.Need-digit-of-requires (
   digit-of-reads.Asked,
   digit-of-reads.Learnt,
@@ -30,7 +30,6 @@ number-digit-of-requires : (t : ℕ) → number-lts.Need-digit-of-requires (
 ) (number-at t) number.Post
 number-digit-of-requires t c κs = c .if1 .taken
 
--- src/text.rt:34:9
 number-slice-write-out : (t : ℕ) → number-lts.Need-slice-write-out (
   digit-of-reads.Asked,
   digit-of-reads.Learnt,
@@ -39,7 +38,6 @@ number-slice-write-out : (t : ℕ) → number-lts.Need-slice-write-out (
 ) (number-at t) number.Post
 number-slice-write-out t c = omega (arith, length-one (c .before .before .before .args .v) (c .before .if1 .taken), c .before .before .before .pre .1)
 
--- src/text.rt:35:16
 number-add-result : (t : ℕ) → number-lts.Need-add-result (
   digit-of-reads.Asked,
   digit-of-reads.Learnt,
@@ -48,7 +46,6 @@ number-add-result : (t : ℕ) → number-lts.Need-add-result (
 ) (number-at t) number.Post
 number-add-result t c = omega (arith, length-one (c .before .before .before .args .v) (c .before .if1 .taken), c .before .before .before .pre .1)
 
--- src/text.rt:35:9
 number-same-length : (t : ℕ) → number-lts.Need-same-length (
   digit-of-reads.Asked,
   digit-of-reads.Learnt,
@@ -57,7 +54,6 @@ number-same-length : (t : ℕ) → number-lts.Need-same-length (
 ) (number-at t) number.Post
 number-same-length t c = simp length-set
 
--- src/text.rt:35:9
 number-returns : (t : ℕ) → number-lts.Need-returns (
   digit-of-reads.Asked,
   digit-of-reads.Learnt,
@@ -66,7 +62,6 @@ number-returns : (t : ℕ) → number-lts.Need-returns (
 ) (number-at t) number.Post
 number-returns t c = rw (c .digit-of .ensures) (number-one (now (c .before .before .before .args .out)) (c .before .before .before .args .at) (c .before .before .before .args .v) (c .before .if1 .taken))
 
--- src/text.rt:37:9
 number-number-requires : (t : ℕ) → number-lts.Need-number-requires (
   digit-of-reads.Asked,
   digit-of-reads.Learnt,
@@ -75,7 +70,6 @@ number-number-requires : (t : ℕ) → number-lts.Need-number-requires (
 ) (number-at t) number.Post
 number-number-requires t c κs = (rw (← (c .before .before .before .pre .0)) (omega arith), omega (arith, length-more (c .before .before .before .args .v) (c .before .if1 .left), c .before .before .before .pre .1))
 
--- src/text.rt:38:17
 number-digit-of-requires-2 : (t : ℕ) → number-lts.Need-digit-of-requires-2 (
   digit-of-reads.Asked,
   digit-of-reads.Learnt,
@@ -84,7 +78,6 @@ number-digit-of-requires-2 : (t : ℕ) → number-lts.Need-digit-of-requires-2 (
 ) (number-at t) number.Post
 number-digit-of-requires-2 t c κs = omega arith
 
--- src/text.rt:38:5
 number-slice-write-out-2 : (t : ℕ) → number-lts.Need-slice-write-out-2 (
   digit-of-reads.Asked,
   digit-of-reads.Learnt,
@@ -93,7 +86,6 @@ number-slice-write-out-2 : (t : ℕ) → number-lts.Need-slice-write-out-2 (
 ) (number-at t) number.Post
 number-slice-write-out-2 t c = number-room (now (c .before .before .before .before .before .before .before .args .out)) (c .before .before .before .number .last .0) (c .before .before .before .before .before .before .before .args .at) (c .before .before .before .before .before .before .before .args .v) (c .before .before .before .number .result) (c .before .before .before .before .before .if1 .left) (c .before .before .before .before .before .before .before .pre .1) (c .before .before .before .number .ensures) .0
 
--- src/text.rt:39:5
 number-add-result-2 : (t : ℕ) → number-lts.Need-add-result-2 (
   digit-of-reads.Asked,
   digit-of-reads.Learnt,
@@ -102,7 +94,6 @@ number-add-result-2 : (t : ℕ) → number-lts.Need-add-result-2 (
 ) (number-at t) number.Post
 number-add-result-2 t c = omega (arith, number-room (now (c .before .before .before .before .before .before .before .args .out)) (c .before .before .before .number .last .0) (c .before .before .before .before .before .before .before .args .at) (c .before .before .before .before .before .before .before .args .v) (c .before .before .before .number .result) (c .before .before .before .before .before .if1 .left) (c .before .before .before .before .before .before .before .pre .1) (c .before .before .before .number .ensures), c .before .before .before .before .before .before .before .good)
 
--- src/text.rt:29:1
 number-same-length-2 : (t : ℕ) → number-lts.Need-same-length-2 (
   digit-of-reads.Asked,
   digit-of-reads.Learnt,
@@ -111,7 +102,6 @@ number-same-length-2 : (t : ℕ) → number-lts.Need-same-length-2 (
 ) (number-at t) number.Post
 number-same-length-2 t c = simp length-set (written-length (now (c .before .before .before .before .before .before .before .args .out)) (c .before .before .before .before .before .before .before .args .at) _ _ _ (c .before .before .before .number .ensures))
 
--- src/text.rt:29:1
 number-returns-2 : (t : ℕ) → number-lts.Need-returns-2 (
   digit-of-reads.Asked,
   digit-of-reads.Learnt,

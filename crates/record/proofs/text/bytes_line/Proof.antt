@@ -1,33 +1,25 @@
+-- `text::bytes_line` meets its contract: name, value and LF have room, and together they are the line. Assumes nothing.
 use denote.Ref.{now}
 use Rattle.record.specs.Write.{name-room, value-room, end-room, line-written}
 use borrow.Author.Needs.{needs}
 use Rattle.record.proofs.text.bytes_line.Statement.{statement}
 use Rattle.record.proofs.text.bytes_line.Tie as tie
-use Rattle.record.proofs.text.bytes_line.Reads as reads
-use Rattle.record.proofs.text.bytes_line.Lts as lts
-use Rattle.record.proofs.text.put.Reads as put-reads
 
--- src/text.rt:57:9
 put-requires : tie.Need-put-requires
 put-requires c κs = name-room (now (c .before .before .before .before .args .out)) (c .before .before .before .before .args .at) (now (c .before .before .before .before .args .name)) (now (c .before .before .before .before .args .value)) (c .before .before .before .before .pre)
 
--- src/text.rt:58:9
 put-requires-2 : tie.Need-put-requires-2
 put-requires-2 c κs = value-room (now (c .before .before .before .before .before .before .before .before .args .out)) (c .before .before .before .before .before .before .before .before .args .at) (now (c .before .before .before .before .before .before .before .before .args .name)) (now (c .before .before .before .before .before .before .before .before .args .value)) (c .before .before .before .before .before .before .before .before .pre) (c .before .before .before .put .last .0) (c .before .before .before .put .result) (c .before .before .before .put .ensures)
 
--- src/text.rt:59:19
 slice-aggregate-put : tie.Need-slice-aggregate-put
 slice-aggregate-put c = search needs
 
--- src/text.rt:59:5
 put-requires-3 : tie.Need-put-requires-3
 put-requires-3 c κs = end-room (now (c .before .before .before .before .before .before .before .before .before .before .before .before .before .args .out)) (c .before .before .before .before .before .before .before .before .before .before .before .before .before .args .at) (now (c .before .before .before .before .before .before .before .before .before .before .before .before .before .args .name)) (now (c .before .before .before .before .before .before .before .before .before .before .before .before .before .args .value)) (c .before .before .before .before .before .before .before .before .before .before .before .before .before .pre) (c .before .before .before .before .before .before .before .before .put .last .0) (c .before .before .before .before .before .before .before .before .put .result) (c .before .before .before .before .before .before .before .before .put .ensures) (c .before .before .before .before .put2 .last .0) (c .before .before .before .before .put2 .result) (c .before .before .before .before .put2 .ensures)
 
--- src/text.rt:53:1
 same-length : tie.Need-same-length
 same-length c = search needs
 
--- src/text.rt:53:1
 returns : tie.Need-returns
 returns c = line-written (now (c .before .before .before .before .before .before .before .before .before .before .before .before .before .before .before .before .args .out)) (c .before .before .before .before .before .before .before .before .before .before .before .before .before .before .before .before .args .at) (now (c .before .before .before .before .before .before .before .before .before .before .before .before .before .before .before .before .args .name)) (now (c .before .before .before .before .before .before .before .before .before .before .before .before .before .before .before .before .args .value)) (c .before .before .before .before .before .before .before .before .before .before .before .before .before .before .before .before .pre) (c .before .before .before .before .before .before .before .before .before .before .before .put .last .0) (c .before .before .before .before .before .before .before .before .before .before .before .put .result) (c .before .before .before .before .before .before .before .before .before .before .before .put .ensures) (c .before .before .before .before .before .before .before .put2 .last .0) (c .before .before .before .before .before .before .before .put2 .result) (c .before .before .before .before .before .before .before .put2 .ensures) (c .before .before .put3 .last .0) (c .before .before .put3 .result) (c .before .before .put3 .ensures)
 
