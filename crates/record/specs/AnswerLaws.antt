@@ -1,97 +1,122 @@
 -- The answer's four lines have room, and together they are its text; two outcomes of one call are one. Assumes nothing.
-use mathlib.Core.Path.{_≡_, refl, sym, _∙_, ap, ap₂, subst}
+use mathlib.Core.Path.{_≡_, refl, sym, _∙_, ap}
 use mathlib.Core.List.{List, [], _∷_, _++_}
 use Prim.Native.Nat.{ℕ, zero, suc, _+_, _^_, _≤_, _<_}
 use native.Mathlib.Omega.{arith}
+use lib.Dec.{lit<, lit≤}
 use lib.ListN.{length, drop, length-append}
-use lib.Seq.{sets, sets-eq}
+use lib.Seq.{sets-eq}
 use Rattle.exact.specs.Meaning.Limits.{enough}
 use Rattle.record.specs.Meaning.{digits, line, answerLines, answerText, WriteOutcome}
 use Rattle.record.specs.Write.{Written, written-both, written-length, digits-few}
 
+-- a call: the word is short, and there is room
+pub record Call : Type 0 where
+  pub refusal : ℕ
+  pub word : List ℕ
+  pub t : ℕ
+  pub old : List ℕ
+  pub refusal-fits : refusal < 256
+  pub word-short : length word ≤ enough
+  pub t-fits : t < 2 ^ 64
+  pub room : 512 ≤ length old
+
 -- ---- the four lines
-abbrev pub refusalLine : ℕ → List ℕ
-refusalLine r = line (114 ∷ 101 ∷ 102 ∷ 117 ∷ 115 ∷ 97 ∷ 108 ∷ []) (digits r)
+abbrev one : Call → List ℕ
+one x = line (114 ∷ 101 ∷ 102 ∷ 117 ∷ 115 ∷ 97 ∷ 108 ∷ []) (digits (x .refusal))
 
-abbrev pub wordLine : List ℕ → List ℕ
-wordLine w = line (119 ∷ 111 ∷ 114 ∷ 100 ∷ []) w
+abbrev two : Call → List ℕ
+two x = line (119 ∷ 111 ∷ 114 ∷ 100 ∷ []) (x .word)
 
-abbrev pub tLine : ℕ → List ℕ
-tLine t = line (116 ∷ []) (digits t)
+abbrev three : Call → List ℕ
+three x = line (116 ∷ []) (digits (x .t))
 
-abbrev pub bytesLine : ℕ → List ℕ
-bytesLine n = line (98 ∷ 121 ∷ 116 ∷ 101 ∷ 115 ∷ []) (digits n)
+abbrev four : Call → List ℕ
+four x = line (98 ∷ 121 ∷ 116 ∷ 101 ∷ 115 ∷ []) (digits (length (x .word)))
 
--- each with LF
-ended : (s : List ℕ) → length (s ++ (10 ∷ [])) ≡ length s + 1
-ended s = length-append s (10 ∷ [])
+abbrev pub lines : Call → List ℕ
+lines x = answerLines (x .refusal) (x .word) (x .t)
 
-pub record Fits (r : ℕ) (w : List ℕ) (t : ℕ) (old : List ℕ) : Type 0 where
-  pub r-few : r < 256
-  pub w-few : length w ≤ enough
-  pub t-few : t < 2 ^ 64
-  pub room : 512 ≤ length old
+record Short (x : Call) : Type 0 where
+  one-few : length (one x) ≤ 12
+  two-few : length (two x) ≤ 382
+  three-few : length (three x) ≤ 23
+  four-few : length (four x) ≤ 10
 
--- 12 + 382 + 23 + 10 bytes at most
-pub record Room (a b c d old : List ℕ) : Type 0 where
-  pub a-few : length a ≤ 12
-  pub b-few : length b ≤ 382
-  pub c-few : length c ≤ 23
-  pub d-few : length d ≤ 10
-  pub room : 512 ≤ length old
-
-module _ (r : ℕ) (w : List ℕ) (t : ℕ) (old : List ℕ) (h : Fits r w t old) where
-  pub answer-room : Room (refusalLine r) (wordLine w) (tLine t) (bytesLine (length w)) old
-  answer-room = record {
-    a-few = omega (arith, ended (digits r), digits-few 2 r (omega (arith, h .r-few)));
-    b-few = omega (arith, ended w, h .w-few);
-    c-few = omega (arith, ended (digits t), digits-few 19 t (omega (arith, h .t-few)));
-    d-few = omega (arith, ended (digits (length w)), digits-few 2 (length w) (omega (arith, h .w-few)));
-    room = h .room;
-  }
+short : (x : Call) → Short x
+short x = record {
+  one-few = omega (arith, ended (digits (x .refusal)), digits-few 2 (x .refusal) (omega (arith, x .refusal-fits)));
+  two-few = omega (arith, ended (x .word), x .word-short);
+  three-few = omega (arith, ended (digits (x .t)), digits-few 19 (x .t) (omega (arith, x .t-fits)));
+  four-few = omega (arith, ended (digits (length (x .word))), digits-few 2 (length (x .word)) (omega (arith, x .word-short)));
+}
+  where
+    ended : (s : List ℕ) → length (s ++ (10 ∷ [])) ≡ length s + 1
+    ended s = length-append s (10 ∷ [])
 
 -- ---- written one after the other
-module _ (a b c d old : List ℕ) (h : Room a b c d old) where
-  pub first-room : 0 + length a ≤ length old
-  first-room = omega (arith, h)
+module _ (x : Call) where
+  pub one-room : 0 + length (one x) ≤ length (x .old)
+  one-room = omega (arith, short x, x .room)
 
-  module _ (m₁ : List ℕ) (i : ℕ) (p : Written old 0 a m₁ i) where
-    pub second-room : i + length b ≤ length m₁
-    second-room = omega (arith, h, p .behind, written-length old 0 a m₁ i p)
+  module _ (m₁ : List ℕ) (i : ℕ) (p : Written (x .old) 0 (one x) m₁ i) where
+    pub two-room : i + length (two x) ≤ length m₁
+    two-room = omega (arith, short x, x .room, p .behind, written-length (x .old) 0 (one x) m₁ i p)
 
-    module _ (m₂ : List ℕ) (j : ℕ) (q : Written m₁ i b m₂ j) where
-      both : Written old 0 (a ++ b) m₂ j
-      both = written-both old m₁ m₂ 0 i j a b p q
+    module _ (m₂ : List ℕ) (j : ℕ) (q : Written m₁ i (two x) m₂ j) where
+      both : Written (x .old) 0 (one x ++ two x) m₂ j
+      both = written-both (x .old) m₁ m₂ 0 i j (one x) (two x) p q
 
-      pub third-room : j + length c ≤ length m₂
-      third-room = omega (arith, h, both .behind, length-append a b, written-length old 0 (a ++ b) m₂ j both)
+      pub three-room : j + length (three x) ≤ length m₂
+      three-room = omega (arith, short x, x .room, both .behind, length-append (one x) (two x), written-length (x .old) 0 (one x ++ two x) m₂ j both)
 
-      module _ (m₃ : List ℕ) (k : ℕ) (r : Written m₂ j c m₃ k) where
-        pub fourth-room : k + length d ≤ length m₃
-        fourth-room = omega (arith, h, both .behind, r .behind, length-append a b, written-length old 0 (a ++ b) m₂ j both, written-length m₂ j c m₃ k r)
+      module _ (m₃ : List ℕ) (k : ℕ) (r : Written m₂ j (three x) m₃ k) where
+        pub four-room : k + length (four x) ≤ length m₃
+        four-room = omega (arith, short x, x .room, both .behind, r .behind, length-append (one x) (two x), written-length (x .old) 0 (one x ++ two x) m₂ j both, written-length m₂ j (three x) m₃ k r)
 
-        pub lines-written : (new : List ℕ) (l : ℕ) → Written m₃ k d new l → Written old 0 (a ++ (b ++ (c ++ d))) new l
-        lines-written new l s = written-both old m₁ new 0 i l a (b ++ (c ++ d)) p (written-both m₁ m₂ new i j l b (c ++ d) q (written-both m₂ m₃ new j k l c d r s))
+        pub lines-written : (new : List ℕ) (l : ℕ) → Written m₃ k (four x) new l → Written (x .old) 0 (lines x) new l
+        lines-written new l s =
+            written-both (x .old) m₁ new 0 i l (one x) (two x ++ (three x ++ four x)) p
+            (written-both m₁ m₂ new i j l (two x) (three x ++ four x) q
+            (written-both m₂ m₃ new j k l (three x) (four x) r s))
 
 -- ---- the outcome
-module _ (r : ℕ) (w : List ℕ) (t : ℕ) (old new : List ℕ) (size : ℕ) (h : Fits r w t old) where
-  lines-fit : length (answerLines r w t) ≤ length old
-  lines-fit =
-      let m : Room (refusalLine r) (wordLine w) (tLine t) (bytesLine (length w)) old = answer-room r w t old h in
-      omega (arith, m, length-append (refusalLine r) (wordLine w ++ (tLine t ++ bytesLine (length w))), length-append (wordLine w) (tLine t ++ bytesLine (length w)), length-append (tLine t) (bytesLine (length w)))
+module _ (x : Call) (new : List ℕ) (size : ℕ) (p : Written (x .old) 0 (lines x) new size) where
+  size-is : size ≡ length (lines x)
+  size-is = omega (arith, p .behind)
 
-  written-out : Written old 0 (answerLines r w t) new size → (size ≡ length (answerLines r w t)) × (new ≡ answerLines r w t ++ drop size old)
-  written-out p =
-      let e : size ≡ length (answerLines r w t) = omega (arith, p .behind) in
-      (e, p .is ∙ sets-eq (answerLines r w t) old 0 (omega (arith, lines-fit)) ∙ ap (λ n. answerLines r w t ++ drop n old) (sym (p .behind)))
+  fit : 0 + length (lines x) ≤ length (x .old)
+  fit = omega (arith, short x, x .room, length-append (one x) (two x ++ (three x ++ four x)), length-append (two x) (three x ++ four x), length-append (three x) (four x))
 
-pub write-accepted : (r : ℕ) (w : List ℕ) (t : ℕ) (old new : List ℕ) (size : ℕ) → r ≡ 0 → Fits r w t old → Written old 0 (answerLines r w t) new size → WriteOutcome r w t old new size
-write-accepted zero w t old new size e h p = let o = written-out zero w t old new size h p in record { is-size = o .0; is = o .1 }
-write-accepted (suc r) w t old new size e h p = absurd (omega arith)
+  new-is : new ≡ lines x ++ drop size (x .old)
+  new-is = p .is ∙ sets-eq (lines x) (x .old) 0 fit ∙ ap (λ n. lines x ++ drop n (x .old)) (sym (p .behind))
 
-pub write-refused : (r : ℕ) (w : List ℕ) (t : ℕ) (old new : List ℕ) (size : ℕ) → (r ≡ 0 → ⊥) → Fits r [] 0 old → Written old 0 (answerLines r [] 0) new size → WriteOutcome r w t old new size
-write-refused zero w t old new size n h p = absurd (n refl)
-write-refused (suc r) w t old new size n h p = let o = written-out (suc r) [] 0 old new size h p in record { is-size = o .0; is = o .1 }
+  pub write-accepted : x .refusal ≡ 0 → WriteOutcome (x .refusal) (x .word) (x .t) (x .old) new size
+  write-accepted e = go (x .refusal) e size-is new-is
+    where
+      go : (r : ℕ) → r ≡ 0 → size ≡ length (answerLines r (x .word) (x .t)) → new ≡ answerLines r (x .word) (x .t) ++ drop size (x .old) → WriteOutcome r (x .word) (x .t) (x .old) new size
+      go zero e s n = record { is-size = s; is = n }
+      go (suc r) e s n = absurd (omega arith)
+
+-- a refused call writes no word and no T letters, whatever it is given
+abbrev pub emptied : Call → Call
+emptied x = record {
+  refusal = x .refusal;
+  word = [];
+  t = 0;
+  old = x .old;
+  refusal-fits = x .refusal-fits;
+  word-short = lit≤ tt;
+  t-fits = lit< tt;
+  room = x .room;
+}
+
+pub write-refused : (x : Call) (new : List ℕ) (size : ℕ) → (x .refusal ≡ 0 → ⊥) → Written (x .old) 0 (lines (emptied x)) new size → WriteOutcome (x .refusal) (x .word) (x .t) (x .old) new size
+write-refused x new size n p = go (x .refusal) n (size-is (emptied x) new size p) (new-is (emptied x) new size p)
+  where
+    go : (r : ℕ) → (r ≡ 0 → ⊥) → size ≡ length (answerLines r [] 0) → new ≡ answerLines r [] 0 ++ drop size (x .old) → WriteOutcome r (x .word) (x .t) (x .old) new size
+    go zero n s e = absurd (n refl)
+    go (suc r) n s e = record { is-size = s; is = e }
 
 -- two outcomes of one call are one: the size, and every byte
 pub write-once : (r : ℕ) (w : List ℕ) (t : ℕ) (old new new′ : List ℕ) (size size′ : ℕ) → WriteOutcome r w t old new size → WriteOutcome r w t old new′ size′ → (size ≡ size′) × (new ≡ new′)

@@ -81,20 +81,27 @@ pub putting-all : (old : List ℕ) (at : ℕ) (src now : List ℕ) (i : ℕ) →
 putting-all old at src now i p h = subst (λ t. Written old at t now (at + i)) (take-all i src h) (p .done)
 
 -- ---- a line: a name, a value, LF
-module _ (old : List ℕ) (at : ℕ) (name value : List ℕ) (room : at + length (name ++ (value ++ (10 ∷ []))) ≤ length old) where
-  all : at + length name + length value + 1 ≤ length old
-  all = omega (arith, length-append name (value ++ (10 ∷ [])), length-append value (10 ∷ []))
+pub record Line : Type 0 where
+  pub old : List ℕ
+  pub at : ℕ
+  pub name : List ℕ
+  pub value : List ℕ
+  pub room : at + length (name ++ (value ++ (10 ∷ []))) ≤ length old
 
-  pub name-room : at + length name ≤ length old
+module _ (x : Line) where
+  all : x .at + length (x .name) + length (x .value) + 1 ≤ length (x .old)
+  all = omega (arith, x .room, length-append (x .name) (x .value ++ (10 ∷ [])), length-append (x .value) (10 ∷ []))
+
+  pub name-room : x .at + length (x .name) ≤ length (x .old)
   name-room = omega (arith, all)
 
-  module _ (mid : List ℕ) (i : ℕ) (p : Written old at name mid i) where
-    pub value-room : i + length value ≤ length mid
-    value-room = omega (arith, all, p .behind, written-length old at name mid i p)
+  module _ (mid : List ℕ) (i : ℕ) (p : Written (x .old) (x .at) (x .name) mid i) where
+    pub value-room : i + length (x .value) ≤ length mid
+    value-room = omega (arith, all, p .behind, written-length (x .old) (x .at) (x .name) mid i p)
 
-    module _ (mid′ : List ℕ) (j : ℕ) (q : Written mid i value mid′ j) where
+    module _ (mid′ : List ℕ) (j : ℕ) (q : Written mid i (x .value) mid′ j) where
       pub end-room : j + 1 ≤ length mid′
-      end-room = omega (arith, all, p .behind, q .behind, written-length old at name mid i p, written-length mid i value mid′ j q)
+      end-room = omega (arith, all, p .behind, q .behind, written-length (x .old) (x .at) (x .name) mid i p, written-length mid i (x .value) mid′ j q)
 
-      pub line-written : (new : List ℕ) (k : ℕ) → Written mid′ j (10 ∷ []) new k → Written old at (name ++ (value ++ (10 ∷ []))) new k
-      line-written new k r = written-both old mid new at i k name (value ++ (10 ∷ [])) p (written-both mid mid′ new i j k value (10 ∷ []) q r)
+      pub line-written : (new : List ℕ) (k : ℕ) → Written mid′ j (10 ∷ []) new k → Written (x .old) (x .at) (x .name ++ (x .value ++ (10 ∷ []))) new k
+      line-written new k r = written-both (x .old) mid new (x .at) i k (x .name) (x .value ++ (10 ∷ [])) p (written-both mid mid′ new i j k (x .value) (10 ∷ []) q r)

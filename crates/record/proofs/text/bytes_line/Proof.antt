@@ -1,27 +1,30 @@
 -- `text::bytes_line` meets its contract: name, value and LF have room, and together they are the line. Assumes nothing.
 use denote.Ref.{now}
-use Rattle.record.specs.Write.{name-room, value-room, end-room, line-written}
+use Rattle.record.specs.Write.{Line, name-room, value-room, end-room, line-written}
 use borrow.Author.Needs.{needs}
 use Rattle.record.proofs.text.bytes_line.Statement.{statement}
 use Rattle.record.proofs.text.bytes_line.Tie as tie
 
+abbrev line : tie.Start → Line
+line c = record { old = now (c .args .out); at = c .args .at; name = now (c .args .name); value = now (c .args .value); room = c .pre }
+
 put-requires : tie.Need-put-requires
-put-requires c κs = name-room (now (c .before .before .before .before .args .out)) (c .before .before .before .before .args .at) (now (c .before .before .before .before .args .name)) (now (c .before .before .before .before .args .value)) (c .before .before .before .before .pre)
+put-requires c κs = name-room (line (c .before .before .before .before))
 
 put-requires-2 : tie.Need-put-requires-2
-put-requires-2 c κs = value-room (now (c .before .before .before .before .before .before .before .before .args .out)) (c .before .before .before .before .before .before .before .before .args .at) (now (c .before .before .before .before .before .before .before .before .args .name)) (now (c .before .before .before .before .before .before .before .before .args .value)) (c .before .before .before .before .before .before .before .before .pre) (c .before .before .before .put .last .0) (c .before .before .before .put .result) (c .before .before .before .put .ensures)
+put-requires-2 c κs = value-room (line (c .before .before .before .before .before .before .before .before)) (c .before .before .before .put .last .0) (c .before .before .before .put .result) (c .before .before .before .put .ensures)
 
 slice-aggregate-put : tie.Need-slice-aggregate-put
 slice-aggregate-put c = search needs
 
 put-requires-3 : tie.Need-put-requires-3
-put-requires-3 c κs = end-room (now (c .before .before .before .before .before .before .before .before .before .before .before .before .before .args .out)) (c .before .before .before .before .before .before .before .before .before .before .before .before .before .args .at) (now (c .before .before .before .before .before .before .before .before .before .before .before .before .before .args .name)) (now (c .before .before .before .before .before .before .before .before .before .before .before .before .before .args .value)) (c .before .before .before .before .before .before .before .before .before .before .before .before .before .pre) (c .before .before .before .before .before .before .before .before .put .last .0) (c .before .before .before .before .before .before .before .before .put .result) (c .before .before .before .before .before .before .before .before .put .ensures) (c .before .before .before .before .put2 .last .0) (c .before .before .before .before .put2 .result) (c .before .before .before .before .put2 .ensures)
+put-requires-3 c κs = end-room (line (c .before .before .before .before .before .before .before .before .before .before .before .before .before)) (c .before .before .before .before .before .before .before .before .put .last .0) (c .before .before .before .before .before .before .before .before .put .result) (c .before .before .before .before .before .before .before .before .put .ensures) (c .before .before .before .before .put2 .last .0) (c .before .before .before .before .put2 .result) (c .before .before .before .before .put2 .ensures)
 
 same-length : tie.Need-same-length
 same-length c = search needs
 
 returns : tie.Need-returns
-returns c = line-written (now (c .before .before .before .before .before .before .before .before .before .before .before .before .before .before .before .before .args .out)) (c .before .before .before .before .before .before .before .before .before .before .before .before .before .before .before .before .args .at) (now (c .before .before .before .before .before .before .before .before .before .before .before .before .before .before .before .before .args .name)) (now (c .before .before .before .before .before .before .before .before .before .before .before .before .before .before .before .before .args .value)) (c .before .before .before .before .before .before .before .before .before .before .before .before .before .before .before .before .pre) (c .before .before .before .before .before .before .before .before .before .before .before .put .last .0) (c .before .before .before .before .before .before .before .before .before .before .before .put .result) (c .before .before .before .before .before .before .before .before .before .before .before .put .ensures) (c .before .before .before .before .before .before .before .put2 .last .0) (c .before .before .before .before .before .before .before .put2 .result) (c .before .before .before .before .before .before .before .put2 .ensures) (c .before .before .put3 .last .0) (c .before .before .put3 .result) (c .before .before .put3 .ensures)
+returns c = line-written (line (c .before .before .before .before .before .before .before .before .before .before .before .before .before .before .before .before)) (c .before .before .before .before .before .before .before .before .before .before .before .put .last .0) (c .before .before .before .before .before .before .before .before .before .before .before .put .result) (c .before .before .before .before .before .before .before .before .before .before .before .put .ensures) (c .before .before .before .before .before .before .before .put2 .last .0) (c .before .before .before .before .before .before .before .put2 .result) (c .before .before .before .before .before .before .before .put2 .ensures) (c .before .before .put3 .last .0) (c .before .before .put3 .result) (c .before .before .put3 .ensures)
 
 pub bytes-line-spec : {M : Type 1} → statement M
 bytes-line-spec =
