@@ -1,4 +1,5 @@
 -- The bench record and its answer in bytes, as document 01's section "The bench program" has them.
+-- Bytes: 10 is LF, 44 a comma, 45 a minus, 48 to 57 the digits, 61 `=`.
 use mathlib.Core.Path.{_≡_}
 use mathlib.Core.Bool.{true, false}
 use mathlib.Core.List.{List, [], _∷_, _++_}
@@ -11,7 +12,7 @@ use Rattle.exact.specs.Meaning.Limits.{Accepted, Record as Malformed}
 use Rattle.record.specs.declared.Record.{Record}
 
 -- ---- a decimal number: no leading zeros, an optional minus, no -0
--- the digits of n / 10, where there are any, and the last; f is no fewer than the digits
+-- one digit, or the digits of n / 10 and the last; f bounds their number, and n + 1 is always enough
 unfoldable pub digitsOf : ℕ → ℕ → List ℕ
 digitsOf zero n = []
 digitsOf (suc f) n = elim (ltb n 10) [ true ↦ (48 + n) ∷ [] | false ↦ digitsOf f (n / 10) ++ ((48 + n % 10) ∷ []) ]
@@ -43,6 +44,7 @@ pub record Numbers : Type 0 where
   pub z : Ω
   pub w : Ω
 
+-- the names are k, n, z and w
 abbrev pub recordText : Numbers → List ℕ
 recordText x = line (107 ∷ []) (text (x .k)) ++ (line (110 ∷ []) (digits (x .n)) ++ (line (122 ∷ []) (four (x .z)) ++ line (119 ∷ []) (four (x .w))))
 
@@ -89,7 +91,7 @@ pub data ReadOutcome (s : List ℕ) (r : Record) : Type 0 where
   accepted : r .refusal ≡ Accepted → RightRecord s (numbers r) → ReadOutcome s r
   refused : r ≡ refusedRecord → ((x : Numbers) → RightRecord s x → ⊥) → ReadOutcome s r
 
--- ---- the answer: refusal number, word, its T letters, its length; when refused the word is empty, and both counts are 0
+-- ---- the answer: refusal number, word, its T letters, its length; the names are refusal, word, t and bytes
 abbrev pub answerLines : ℕ → List ℕ → ℕ → List ℕ
 answerLines refusal word t =
     line (114 ∷ 101 ∷ 102 ∷ 117 ∷ 115 ∷ 97 ∷ 108 ∷ []) (digits refusal)
@@ -97,6 +99,7 @@ answerLines refusal word t =
     ++ (line (116 ∷ []) (digits t)
     ++ line (98 ∷ 121 ∷ 116 ∷ 101 ∷ 115 ∷ []) (digits (length word))))
 
+-- when refused the word is empty, and both counts are 0
 abbrev pub answerText : ℕ → List ℕ → ℕ → List ℕ
 answerText zero word t = answerLines zero word t
 answerText (suc r) word t = answerLines (suc r) [] 0

@@ -27,25 +27,39 @@ slice-aggregate-bytes-line : tie.Need-slice-aggregate-bytes-line
 slice-aggregate-bytes-line c = search needs
 
 bytes-line-requires : tie.Need-bytes-line-requires
-bytes-line-requires c κs = two-room (call (c .before .before .before .before .before .before .before .before .before)) (c .before .before .before .before .number-line .last .0) (c .before .before .before .before .number-line .result) (c .before .before .before .before .number-line .ensures)
+bytes-line-requires c κs =
+    let one = c .before .before .before .before .number-line in
+    two-room (call (c .before .before .before .before .before .before .before .before .before)) (one .last .0) (one .result) (one .ensures)
 
 slice-aggregate-number-line-2 : tie.Need-slice-aggregate-number-line-2
 slice-aggregate-number-line-2 c = search needs
 
 number-line-requires-2 : tie.Need-number-line-requires-2
-number-line-requires-2 c κs = three-room (call (c .before .before .before .before .before .before .before .before .before .before .before .before .before .before)) (c .before .before .before .before .before .before .before .before .before .number-line .last .0) (c .before .before .before .before .before .before .before .before .before .number-line .result) (c .before .before .before .before .before .before .before .before .before .number-line .ensures) (c .before .before .before .before .bytes-line .last .0) (c .before .before .before .before .bytes-line .result) (c .before .before .before .before .bytes-line .ensures)
+number-line-requires-2 c κs =
+    let one = c .before .before .before .before .before .before .before .before .before .number-line in
+    let two = c .before .before .before .before .bytes-line in
+    three-room (call (c .before .before .before .before .before .before .before .before .before .before .before .before .before .before)) (one .last .0) (one .result) (one .ensures) (two .last .0) (two .result) (two .ensures)
 
 slice-aggregate-number-line-3 : tie.Need-slice-aggregate-number-line-3
 slice-aggregate-number-line-3 c = search needs
 
 number-line-requires-3 : tie.Need-number-line-requires-3
-number-line-requires-3 c κs = four-room (call (c .before .before .before .before .before .before .before .before .before .before .before .before .before .before .before .before .before .before .before)) (c .before .before .before .before .before .before .before .before .before .before .before .before .before .before .number-line .last .0) (c .before .before .before .before .before .before .before .before .before .before .before .before .before .before .number-line .result) (c .before .before .before .before .before .before .before .before .before .before .before .before .before .before .number-line .ensures) (c .before .before .before .before .before .before .before .before .before .bytes-line .last .0) (c .before .before .before .before .before .before .before .before .before .bytes-line .result) (c .before .before .before .before .before .before .before .before .before .bytes-line .ensures) (c .before .before .before .before .number-line2 .last .0) (c .before .before .before .before .number-line2 .result) (c .before .before .before .before .number-line2 .ensures)
+number-line-requires-3 c κs =
+    let one = c .before .before .before .before .before .before .before .before .before .before .before .before .before .before .number-line in
+    let two = c .before .before .before .before .before .before .before .before .before .bytes-line in
+    let three = c .before .before .before .before .number-line2 in
+    four-room (call (c .before .before .before .before .before .before .before .before .before .before .before .before .before .before .before .before .before .before .before)) (one .last .0) (one .result) (one .ensures) (two .last .0) (two .result) (two .ensures) (three .last .0) (three .result) (three .ensures)
 
 same-length : tie.Need-same-length
 same-length c = search needs
 
 returns : tie.Need-returns
-returns c = lines-written (call (c .before .before .before .before .before .before .before .before .before .before .before .before .before .before .before .before .before .before .before .before .before .before)) (c .before .before .before .before .before .before .before .before .before .before .before .before .before .before .before .before .before .number-line .last .0) (c .before .before .before .before .before .before .before .before .before .before .before .before .before .before .before .before .before .number-line .result) (c .before .before .before .before .before .before .before .before .before .before .before .before .before .before .before .before .before .number-line .ensures) (c .before .before .before .before .before .before .before .before .before .before .before .before .bytes-line .last .0) (c .before .before .before .before .before .before .before .before .before .before .before .before .bytes-line .result) (c .before .before .before .before .before .before .before .before .before .before .before .before .bytes-line .ensures) (c .before .before .before .before .before .before .before .number-line2 .last .0) (c .before .before .before .before .before .before .before .number-line2 .result) (c .before .before .before .before .before .before .before .number-line2 .ensures) (c .before .before .number-line3 .last .0) (c .before .before .number-line3 .result) (c .before .before .number-line3 .ensures)
+returns c =
+    let one = c .before .before .before .before .before .before .before .before .before .before .before .before .before .before .before .before .before .number-line in
+    let two = c .before .before .before .before .before .before .before .before .before .before .before .before .bytes-line in
+    let three = c .before .before .before .before .before .before .before .number-line2 in
+    let four = c .before .before .number-line3 in
+    lines-written (call (c .before .before .before .before .before .before .before .before .before .before .before .before .before .before .before .before .before .before .before .before .before .before)) (one .last .0) (one .result) (one .ensures) (two .last .0) (two .result) (two .ensures) (three .last .0) (three .result) (three .ensures) (four .last .0) (four .result) (four .ensures)
 
 pub answer-spec : {M : Type 1} → statement M
 answer-spec =

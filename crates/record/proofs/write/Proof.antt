@@ -24,7 +24,9 @@ same-length : tie.Need-same-length
 same-length c = search needs
 
 returns : tie.Need-returns
-returns c = write-accepted (call (c .before .before .before .before .before .before .before)) (c .before .before .answer .last .1 .1 .1 .0) (c .before .before .answer .result) (c .before .before .answer .ensures) (c .before .before .before .before .if1 .taken)
+returns c =
+    let p = c .before .before .answer in
+    write-accepted (call (c .before .before .before .before .before .before .before)) (p .last .1 .1 .1 .0) (p .result) (p .ensures) (c .before .before .before .before .if1 .taken)
 
 slice-aggregate-answer : tie.Need-slice-aggregate-answer
 slice-aggregate-answer c = search needs

@@ -12,19 +12,28 @@ put-requires : tie.Need-put-requires
 put-requires c κs = name-room (line (c .before .before .before .before))
 
 put-requires-2 : tie.Need-put-requires-2
-put-requires-2 c κs = value-room (line (c .before .before .before .before .before .before .before .before)) (c .before .before .before .put .last .0) (c .before .before .before .put .result) (c .before .before .before .put .ensures)
+put-requires-2 c κs =
+    let p = c .before .before .before .put in
+    value-room (line (c .before .before .before .before .before .before .before .before)) (p .last .0) (p .result) (p .ensures)
 
 slice-aggregate-put : tie.Need-slice-aggregate-put
 slice-aggregate-put c = search needs
 
 put-requires-3 : tie.Need-put-requires-3
-put-requires-3 c κs = end-room (line (c .before .before .before .before .before .before .before .before .before .before .before .before .before)) (c .before .before .before .before .before .before .before .before .put .last .0) (c .before .before .before .before .before .before .before .before .put .result) (c .before .before .before .before .before .before .before .before .put .ensures) (c .before .before .before .before .put2 .last .0) (c .before .before .before .before .put2 .result) (c .before .before .before .before .put2 .ensures)
+put-requires-3 c κs =
+    let p = c .before .before .before .before .before .before .before .before .put in
+    let q = c .before .before .before .before .put2 in
+    end-room (line (c .before .before .before .before .before .before .before .before .before .before .before .before .before)) (p .last .0) (p .result) (p .ensures) (q .last .0) (q .result) (q .ensures)
 
 same-length : tie.Need-same-length
 same-length c = search needs
 
 returns : tie.Need-returns
-returns c = line-written (line (c .before .before .before .before .before .before .before .before .before .before .before .before .before .before .before .before)) (c .before .before .before .before .before .before .before .before .before .before .before .put .last .0) (c .before .before .before .before .before .before .before .before .before .before .before .put .result) (c .before .before .before .before .before .before .before .before .before .before .before .put .ensures) (c .before .before .before .before .before .before .before .put2 .last .0) (c .before .before .before .before .before .before .before .put2 .result) (c .before .before .before .before .before .before .before .put2 .ensures) (c .before .before .put3 .last .0) (c .before .before .put3 .result) (c .before .before .put3 .ensures)
+returns c =
+    let p = c .before .before .before .before .before .before .before .before .before .before .before .put in
+    let q = c .before .before .before .before .before .before .before .put2 in
+    let r = c .before .before .put3 in
+    line-written (line (c .before .before .before .before .before .before .before .before .before .before .before .before .before .before .before .before)) (p .last .0) (p .result) (p .ensures) (q .last .0) (q .result) (q .ensures) (r .last .0) (r .result) (r .ensures)
 
 pub bytes-line-spec : {M : Type 1} → statement M
 bytes-line-spec =
