@@ -1,0 +1,132 @@
+-- The proof of the cycle of calls {text::number}. The measure is the number. The tenth's digits and the last are the number's. Assumes nothing.
+use native.Mathlib.Omega.{arith}
+use denote.Ref.{now}
+use lib.ListN.{length, length-set}
+use Rattle.record.specs.Write.{Written, number-one, number-more, length-one, length-more, number-room, written-length}
+use Prim.Native.Nat.{ℕ, _<_}
+use borrow.Fn.Kinds.{In}
+use borrow.Fn.PlainCycle.{Measures, is, falls, and}
+use Rattle.record.proofs.text.number.Reads as number
+use Rattle.record.proofs.text.number.Kinds as number-kinds
+use Rattle.record.proofs.text.+number.Lts-number as number-lts
+use Rattle.record.proofs.text.digit_of.Reads as digit-of-reads
+use Rattle.record.proofs.text.+number.{statement}
+use Rattle.record.proofs.text.+number.Tie.{close}
+
+abbrev μ-number : Measures 1 number-kinds.ps ℕ
+μ-number κs a = a .1 .1 .0
+
+abbrev number-at : ℕ → In 1 number-kinds.ps
+number-at t = and 1 number-kinds.ps (is 1 number-kinds.ps μ-number t) number.Pre
+
+abbrev number-below : ℕ → In 1 number-kinds.ps
+number-below t = and 1 number-kinds.ps (falls 1 number-kinds.ps _<_ μ-number t) number.Pre
+
+number-digit-of-requires : (t : ℕ) → number-lts.Need-digit-of-requires (
+  digit-of-reads.Asked,
+  digit-of-reads.Learnt,
+  number-below t,
+  number.Post,
+) (number-at t) number.Post
+number-digit-of-requires t c κs = c .if1 .taken
+
+number-slice-write-out : (t : ℕ) → number-lts.Need-slice-write-out (
+  digit-of-reads.Asked,
+  digit-of-reads.Learnt,
+  number-below t,
+  number.Post,
+) (number-at t) number.Post
+number-slice-write-out t c = omega (arith, length-one (c .before .before .before .args .v) (c .before .if1 .taken), c .before .before .before .pre .1)
+
+number-add-result : (t : ℕ) → number-lts.Need-add-result (
+  digit-of-reads.Asked,
+  digit-of-reads.Learnt,
+  number-below t,
+  number.Post,
+) (number-at t) number.Post
+number-add-result t c = omega (arith, length-one (c .before .before .before .args .v) (c .before .if1 .taken), c .before .before .before .pre .1)
+
+number-same-length : (t : ℕ) → number-lts.Need-same-length (
+  digit-of-reads.Asked,
+  digit-of-reads.Learnt,
+  number-below t,
+  number.Post,
+) (number-at t) number.Post
+number-same-length t c = simp length-set
+
+number-returns : (t : ℕ) → number-lts.Need-returns (
+  digit-of-reads.Asked,
+  digit-of-reads.Learnt,
+  number-below t,
+  number.Post,
+) (number-at t) number.Post
+number-returns t c = rw (c .digit-of .ensures) (number-one (now (c .before .before .before .args .out)) (c .before .before .before .args .at) (c .before .before .before .args .v) (c .before .if1 .taken))
+
+number-number-requires : (t : ℕ) → number-lts.Need-number-requires (
+  digit-of-reads.Asked,
+  digit-of-reads.Learnt,
+  number-below t,
+  number.Post,
+) (number-at t) number.Post
+number-number-requires t c κs = (rw (← (c .before .before .before .pre .0)) (omega arith), omega (arith, length-more (c .before .before .before .args .v) (c .before .if1 .left), c .before .before .before .pre .1))
+
+number-digit-of-requires-2 : (t : ℕ) → number-lts.Need-digit-of-requires-2 (
+  digit-of-reads.Asked,
+  digit-of-reads.Learnt,
+  number-below t,
+  number.Post,
+) (number-at t) number.Post
+number-digit-of-requires-2 t c κs = omega arith
+
+number-slice-write-out-2 : (t : ℕ) → number-lts.Need-slice-write-out-2 (
+  digit-of-reads.Asked,
+  digit-of-reads.Learnt,
+  number-below t,
+  number.Post,
+) (number-at t) number.Post
+number-slice-write-out-2 t c = number-room (now (c .before .before .before .before .before .before .before .args .out)) (c .before .before .before .number .last .0) (c .before .before .before .before .before .before .before .args .at) (c .before .before .before .before .before .before .before .args .v) (c .before .before .before .number .result) (c .before .before .before .before .before .if1 .left) (c .before .before .before .before .before .before .before .pre .1) (c .before .before .before .number .ensures) .0
+
+number-add-result-2 : (t : ℕ) → number-lts.Need-add-result-2 (
+  digit-of-reads.Asked,
+  digit-of-reads.Learnt,
+  number-below t,
+  number.Post,
+) (number-at t) number.Post
+number-add-result-2 t c = omega (arith, number-room (now (c .before .before .before .before .before .before .before .args .out)) (c .before .before .before .number .last .0) (c .before .before .before .before .before .before .before .args .at) (c .before .before .before .before .before .before .before .args .v) (c .before .before .before .number .result) (c .before .before .before .before .before .if1 .left) (c .before .before .before .before .before .before .before .pre .1) (c .before .before .before .number .ensures), c .before .before .before .before .before .before .before .good)
+
+number-same-length-2 : (t : ℕ) → number-lts.Need-same-length-2 (
+  digit-of-reads.Asked,
+  digit-of-reads.Learnt,
+  number-below t,
+  number.Post,
+) (number-at t) number.Post
+number-same-length-2 t c = simp length-set (written-length (now (c .before .before .before .before .before .before .before .args .out)) (c .before .before .before .before .before .before .before .args .at) _ _ _ (c .before .before .before .number .ensures))
+
+number-returns-2 : (t : ℕ) → number-lts.Need-returns-2 (
+  digit-of-reads.Asked,
+  digit-of-reads.Learnt,
+  number-below t,
+  number.Post,
+) (number-at t) number.Post
+number-returns-2 t c = rw (c .digit-of2 .ensures) (number-more (now (c .before .before .before .before .before .before .before .args .out)) (c .before .before .before .number .last .0) (c .before .before .before .before .before .before .before .args .at) (c .before .before .before .before .before .before .before .args .v) (c .before .before .before .number .result) (c .before .before .before .before .before .if1 .left) (c .before .before .before .number .ensures))
+
+pub +number-spec : {M : Type 1} → statement M
++number-spec = close μ-number λ t. number-lts.spec (
+  digit-of-reads.Asked,
+  digit-of-reads.Learnt,
+  number-below t,
+  number.Post,
+)
+    (number-at t)
+    number.Post
+    (number-digit-of-requires t)
+    (number-slice-write-out t)
+    (number-add-result t)
+    (number-same-length t)
+    (number-returns t)
+    (number-number-requires t)
+    (number-digit-of-requires-2 t)
+    (number-slice-write-out-2 t)
+    (number-add-result-2 t)
+    (number-same-length-2 t)
+    (number-returns-2 t)

@@ -1,0 +1,98 @@
+-- Formats: how values of a kind are written, and which are allowed; what it is to find such a text at a place of the input, or to find none;
+-- and that a text determines its value and what follows. Pieces are put together by `before`. Assumes nothing.
+use mathlib.Core.Path.{_≡_, refl, sym, _∙_, ap, ap₂}
+use mathlib.Core.List.{List, [], _∷_, _++_, append-assoc}
+use Prim.Native.Nat.{ℕ, suc, _≤_, _<_, _^_}
+use native.Mathlib.Omega.{arith}
+use lib.IntN.{ℤ, pos, negsuc}
+use lib.ListN.{length, drop}
+use Rattle.record.specs.Meaning.{digits, text, InRange}
+use Rattle.record.specs.Decimal.{digits-once, text-once}
+
+pub record Format (A : Type 0) : Type 1 where
+  pub show : A → List ℕ
+  pub allowed : A → Type 0
+
+-- l begins with the text of a; what follows are the bytes of s from next on
+pub record Found {A : Type 0} (F : Format A) (l s : List ℕ) (a : A) (next : ℕ) : Type 0 where
+  pub is : l ≡ F .show a ++ drop next s
+  pub fine : F .allowed a
+  pub within : next ≤ length s
+
+-- l begins with no text of the format
+pub record Missing {A : Type 0} (F : Format A) (l : List ℕ) : Type 0 where
+  pub none : (a : A) (rest : List ℕ) → F .allowed a → l ≡ F .show a ++ rest → ⊥
+
+pub record Once {A : Type 0} (F : Format A) : Type 0 where
+  pub once : (a b : A) (r t : List ℕ) → F .show a ++ r ≡ F .show b ++ t → (a ≡ b) × (r ≡ t)
+
+-- ---- one after the other
+module _ {A B : Type 0} (F : Format A) (G : Format B) where
+  abbrev pub before : Format (A × B)
+  before = record { show = λ p. F .show (p .0) ++ G .show (p .1); allowed = λ p. F .allowed (p .0) × G .allowed (p .1) }
+
+  pub found-both : {l s : List ℕ} {a : A} {b : B} {i j : ℕ} → Found F l s a i → Found G (drop i s) s b j → Found before l s (a, b) j
+  found-both {l} {s} {a} {b} {i} {j} f g = record {
+    is = f .is ∙ ap (λ x. F .show a ++ x) (g .is) ∙ sym (append-assoc (F .show a) (G .show b) (drop j s));
+    fine = (f .fine, g .fine);
+    within = g .within;
+  }
+
+  pub missing-first : {l : List ℕ} → Missing F l → Missing before l
+  missing-first m = record { none = λ p rest ok e. m .none (p .0) (G .show (p .1) ++ rest) (ok .0) (e ∙ append-assoc (F .show (p .0)) (G .show (p .1)) rest) }
+
+  pub missing-second : {l s : List ℕ} {a : A} {i : ℕ} → Once F → Found F l s a i → Missing G (drop i s) → Missing before l
+  missing-second {l} {s} {a} {i} o f m = record {
+    none = λ p rest ok e.
+        m .none (p .1) rest (ok .1) (o .once a (p .0) (drop i s) (G .show (p .1) ++ rest) (sym (f .is) ∙ e ∙ append-assoc (F .show (p .0)) (G .show (p .1)) rest) .1);
+  }
+
+  pub once-both : Once F → Once G → Once before
+  once-both o q = record {
+    once = λ p p′ r t e.
+        let first = o .once (p .0) (p′ .0) (G .show (p .1) ++ r) (G .show (p′ .1) ++ t) (sym (append-assoc (F .show (p .0)) (G .show (p .1)) r) ∙ e ∙ append-assoc (F .show (p′ .0)) (G .show (p′ .1)) t) in
+        let second = q .once (p .1) (p′ .1) r t (first .1) in
+        (ap₂ (λ a b. (a, b)) (first .0) (second .0), second .1);
+  }
+
+-- ---- the pieces
+-- a name and `=`
+abbrev pub named : ℕ → Format (Unit {0})
+named name = record { show = λ u. name ∷ 61 ∷ []; allowed = λ u. Unit {0} }
+
+-- a number from 0 to most, and the byte e
+abbrev pub natural : ℕ → ℕ → Format ℕ
+natural most e = record { show = λ n. digits n ++ (e ∷ []); allowed = λ n. n ≤ most }
+
+-- a number in range, and the byte e
+abbrev pub whole : ℕ → Format ℤ
+whole e = record { show = λ z. text z ++ (e ∷ []); allowed = InRange }
+
+tails : {a b c d : ℕ} {s t : List ℕ} → a ∷ b ∷ s ≡ c ∷ d ∷ t → s ≡ t
+tails h = cc
+
+pub once-named : (name : ℕ) → Once (named name)
+once-named name = record { once = λ a b r t e. (refl, tails e) }
+
+module _ (e : ℕ) (h : e < 48) where
+  pub once-natural : (most : ℕ) → Once (natural most e)
+  once-natural most = record { once = λ m n r t p. digits-once e m n r t h (sym (append-assoc (digits m) (e ∷ []) r) ∙ p ∙ append-assoc (digits n) (e ∷ []) t) }
+
+  pub once-whole : Once (whole e)
+  once-whole = record { once = λ x y r t p. text-once e x y r t h (sym (append-assoc (text x) (e ∷ []) r) ∙ p ∙ append-assoc (text y) (e ∷ []) t) }
+
+-- ---- the lines
+abbrev pub Four : Type 0
+Four = ℤ × (ℤ × (ℤ × ℤ))
+
+abbrev pub fourNumbers : Format Four
+fourNumbers = before (whole 44) (before (whole 44) (before (whole 44) (whole 10)))
+
+abbrev pub ringLine : ℕ → Format ((Unit {0}) × Four)
+ringLine name = before (named name) fourNumbers
+
+abbrev pub kLine : Format ((Unit {0}) × ℤ)
+kLine = before (named 107) (whole 10)
+
+abbrev pub nLine : Format ((Unit {0}) × ℕ)
+nLine = before (named 110) (natural 255 10)

@@ -1,0 +1,128 @@
+// The bench record, read from a slice, and its answer, written to a slice, as document 01's "The bench program" has them to the byte.
+mod decimal;
+mod lines;
+mod text;
+
+use decimal::Natural;
+use decimal::Whole;
+use lines::Four;
+ghost use mathlib.Core.Path.{_≡_};
+ghost use Prim.Native.Nat.{_≤_};
+ghost use lib.ListN.{length};
+ghost use Rattle.exact.specs.Meaning.Limits.{enough};
+ghost use Rattle.record.specs.Meaning.{refusedRecord, ReadOutcome, answerLines, WriteOutcome};
+ghost use Rattle.record.specs.Write.{Written};
+
+// The bytes of the longest right record: whoever has read more can stop, and the answer is 8.
+pub const LONGEST_RECORD: usize = 201;
+
+// What was read: refusal 0 and the numbers, or refusal 8 and zeros.
+pub struct Record {
+    pub refusal: u8,
+    pub k: i64,
+    pub n: u8,
+    pub za: i64,
+    pub zb: i64,
+    pub zc: i64,
+    pub zd: i64,
+    pub wa: i64,
+    pub wb: i64,
+    pub wc: i64,
+    pub wd: i64,
+}
+
+fn refused() -> Record
+    ensures { λ r. ⌜ r ≡ refusedRecord ⌝ }
+{
+    Record {
+        refusal: exact::RECORD,
+        k: 0,
+        n: 0,
+        za: 0,
+        zb: 0,
+        zc: 0,
+        zd: 0,
+        wa: 0,
+        wb: 0,
+        wc: 0,
+        wd: 0,
+    }
+}
+
+// The numbers of a right record; any other input, however long, is refused 8.
+pub fn read(s: &[u8]) -> Record
+    ensures { λ r. ⌜ ReadOutcome (now (s .entry)) r ⌝ }
+{
+    let Whole::Is {
+        value: k,
+        next: second,
+    } = lines::k_at(s, 0)
+    else {
+        return refused();
+    };
+    let Natural::Is {
+        value: n,
+        next: third,
+    } = lines::n_at(s, second)
+    else {
+        return refused();
+    };
+    let Four::Is {
+        a: za,
+        b: zb,
+        c: zc,
+        d: zd,
+        next: fourth,
+    } = lines::ring_at(s, third, b'z')
+    else {
+        return refused();
+    };
+    let Four::Is {
+        a: wa,
+        b: wb,
+        c: wc,
+        d: wd,
+        next: end,
+    } = lines::ring_at(s, fourth, b'w')
+    else {
+        return refused();
+    };
+    if end < s.len() {
+        return refused();
+    }
+    let n = n as u8;
+    Record {
+        refusal: exact::ACCEPTED,
+        k,
+        n,
+        za,
+        zb,
+        zc,
+        zd,
+        wa,
+        wb,
+        wc,
+        wd,
+    }
+}
+
+fn answer(refusal: u8, word: &[u8], t: u64, out: &mut [u8]) -> usize
+    requires { ⌜ (length (now word) ≤ enough) × (512 ≤ length (now out)) ⌝ }
+    ensures { λ r. ⌜ Written (now (out .entry)) 0 (answerLines refusal (now (word .entry)) t) (now (out .exit)) r ⌝ }
+{
+    let second = text::number_line(out, 0, b"refusal=", refusal as u64);
+    let third = text::bytes_line(out, second, b"word=", word);
+    let fourth = text::number_line(out, third, b"t=", t);
+    text::number_line(out, fourth, b"bytes=", word.len() as u64)
+}
+
+// The answer's text from the start of `out`, and its size; when refused the word is empty, and both counts are 0.
+pub fn write(refusal: u8, word: &[u8], t: u64, out: &mut [u8]) -> usize
+    requires { ⌜ (length (now word) ≤ enough) × (512 ≤ length (now out)) ⌝ }
+    ensures { λ r. ⌜ WriteOutcome refusal (now (word .entry)) t (now (out .entry)) (now (out .exit)) r ⌝ }
+{
+    if refusal == exact::ACCEPTED {
+        return answer(refusal, word, t, out);
+    }
+    answer(refusal, b"", 0, out)
+}
