@@ -1,0 +1,2 @@
+-- Demand 3: normalising a word's letters and synthesising from its multiplied-out matrix agree.
+pub mod Demand3

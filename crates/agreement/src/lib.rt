@@ -1,0 +1,4 @@
+// Demand 3 in running code.
+pub fn ready() -> bool {
+    true
+}
