@@ -1,0 +1,14 @@
+-- `dunrossel::wide` meets its contract: a byte fits.
+use Rattle.dunrossel.specs.Numbers.{wide-is}
+use borrow.Author.Needs.{needs}
+use Rattle.dunrossel.proofs.wide.Statement.{statement}
+use Rattle.dunrossel.proofs.wide.Tie as tie
+
+cast-result : tie.Need-cast-result
+cast-result c = search needs
+
+returns : tie.Need-returns
+returns c = wide-is (c .args .x) (c .fits .x)
+
+pub wide-spec : {M : Type 1} → statement M
+wide-spec = tie.close (tie.spec cast-result returns)

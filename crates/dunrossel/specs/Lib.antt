@@ -1,0 +1,2 @@
+-- What each export promises, over the promises of the jobs.
+pub mod Numbers
