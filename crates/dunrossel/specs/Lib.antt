@@ -1,2 +1,4 @@
 -- What each export promises, over the promises of the jobs.
 pub mod Numbers
+pub mod Words
+pub mod Cliffords

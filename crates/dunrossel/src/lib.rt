@@ -1,6 +1,15 @@
 // The library that other programs link: every job, with numbers and slices only.
 ghost use mathlib.Core.Path.{_≡_};
 ghost use Rattle.dunrossel.specs.Numbers.{zOf, wOf, ten, Wide, Reduces, Multiplies};
+ghost use Rattle.dunrossel.specs.Words.{counts, Writes};
+ghost use Rattle.dunrossel.specs.Cliffords.{Narrow, listed, fourOf, fiveOf, Multiplied, Inverted, Parted};
+ghost use Rattle.normal_form.specs.Job6.{axisNumber};
+ghost use Rattle.normal_form.specs.Outcome.{Normalises, Shortens};
+use normal_form::Written;
+use normal_form::clifford;
+use normal_form::clifford::Axis;
+use normal_form::clifford::Clifford;
+use normal_form::clifford::Coset;
 use ring::ZOmega;
 use unitary::DOmegaUnitary;
 
@@ -75,4 +84,114 @@ pub extern "C" fn dunrossel_matrix(word: &[u8], out: &mut [i64; 10], place: &mut
     put_ten(matrix, out);
     *place = answer.place as u64;
     answer.refusal
+}
+
+fn put_counts(answer: Written, out: &mut [u64; 3])
+    ensures { λ r. ⌜ now (out .exit) ≡ counts answer ⌝ }
+{
+    *out = [answer.place as u64, answer.bytes as u64, answer.tees as u64];
+}
+
+#[no_mangle]
+pub extern "C" fn dunrossel_normalise(word: &[u8], buf: &mut [u8], out: &mut [u64; 3]) -> u8
+    ensures { λ r. ⌜ Writes Normalises (now (word .entry)) (now (buf .entry)) r (now (out .exit)) (now (buf .exit)) ⌝ }
+{
+    let answer = normal_form::normalise(word, buf);
+    put_counts(answer, out);
+    answer.refusal
+}
+
+#[no_mangle]
+pub extern "C" fn dunrossel_phase_free(word: &[u8], buf: &mut [u8], out: &mut [u64; 3]) -> u8
+    ensures { λ r. ⌜ Writes Shortens (now (word .entry)) (now (buf .entry)) r (now (out .exit)) (now (buf .exit)) ⌝ }
+{
+    let answer = normal_form::phase_free(word, buf);
+    put_counts(answer, out);
+    answer.refusal
+}
+
+fn narrow(x: u8) -> i32
+    ensures { λ r. ⌜ Narrow x r ⌝ }
+{
+    x as i32
+}
+
+struct Four {
+    a: i32,
+    b: i32,
+    c: i32,
+    d: i32,
+}
+
+fn four_of(x: &[i32; 4]) -> Four
+    ensures { λ r. ⌜ r ≡ listed (now (x .entry)) ⌝ }
+{
+    Four {
+        a: x[0],
+        b: x[1],
+        c: x[2],
+        d: x[3],
+    }
+}
+
+fn put_clifford(q: Clifford, out: &mut [i32; 4])
+    ensures { λ r. ⌜ now (out .exit) ≡ fourOf q ⌝ }
+{
+    let a = narrow(q.a);
+    let b = narrow(q.b);
+    let c = narrow(q.c);
+    let d = narrow(q.d);
+    *out = [a, b, c, d];
+}
+
+fn axis_number(axis: Axis) -> u8
+    ensures { λ r. ⌜ r ≡ axisNumber axis ⌝ }
+{
+    match axis {
+        Axis::I => 0,
+        Axis::H => 1,
+        Axis::SH => 2,
+    }
+}
+
+fn put_coset(split: Coset, out: &mut [i32; 5])
+    ensures { λ r. ⌜ now (out .exit) ≡ fiveOf split ⌝ }
+{
+    let axis = split.axis;
+    let q = split.rest;
+    let number = axis_number(axis);
+    let e = narrow(number);
+    let a = narrow(q.a);
+    let b = narrow(q.b);
+    let c = narrow(q.c);
+    let d = narrow(q.d);
+    *out = [e, a, b, c, d];
+}
+
+#[no_mangle]
+pub extern "C" fn dunrossel_clifford_product(x: &[i32; 4], y: &[i32; 4], out: &mut [i32; 4])
+    ensures { λ r. ⌜ Multiplied (now (x .entry)) (now (y .entry)) (now (out .exit)) ⌝ }
+{
+    let p = four_of(x);
+    let q = four_of(y);
+    let answer = clifford::clifford_product(p.a, p.b, p.c, p.d, q.a, q.b, q.c, q.d);
+    put_clifford(answer, out);
+}
+
+#[no_mangle]
+pub extern "C" fn dunrossel_clifford_inverse(x: &[i32; 4], out: &mut [i32; 4])
+    ensures { λ r. ⌜ Inverted (now (x .entry)) (now (out .exit)) ⌝ }
+{
+    let q = four_of(x);
+    let answer = clifford::clifford_inverse(q.a, q.b, q.c, q.d);
+    put_clifford(answer, out);
+}
+
+#[no_mangle]
+pub extern "C" fn dunrossel_clifford_coset(x: &[i32; 4], out: &mut [i32; 5])
+    ensures { λ r. ⌜ Parted (now (x .entry)) (now (out .exit)) ⌝ }
+{
+    let q = four_of(x);
+    let answer = clifford::clifford_split(q.a, q.b, q.c, q.d);
+    put_coset(answer, out);
 }
