@@ -1,0 +1,7 @@
+mod Rounding
+mod Casting
+mod Operations
+mod Units
+mod Powers
+mod Error
+mod Whole
