@@ -5,3 +5,5 @@ mod Units
 mod Powers
 mod Error
 mod Whole
+mod Numbers
+mod Branches

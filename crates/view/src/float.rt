@@ -3,7 +3,9 @@ ghost use mathlib.Core.Path.{_≡_};
 ghost use Prim.Native.Nat.{_≤_, _^_};
 ghost use lib.IntN.{natAbs};
 ghost use lib.Ieee.{binary64, ofInt};
+ghost use Rattle.view.specs.Meaning.Surd.{over as surd};
 ghost use Rattle.view.specs.Meaning.Near.{half^, Shows};
+ghost use Rattle.view.specs.Size.{Fit};
 
 // A whole number, exactly.
 pub fn cast(a: i64) -> f64
@@ -28,4 +30,17 @@ pub fn near(a: i64, b: i64, s: u32) -> f64
 {
     let sum = cast(a) + cast(b) * 1.4142135623730951;
     sum * power(s)
+}
+
+// u + v over root two, over root two to the k.
+pub fn over(k: u32, u: i64, v: i64) -> f64
+    requires { ⌜ Fit (surd k u v) ⌝ }
+    ensures { λ r. ⌜ Shows (surd k u v) r ⌝ }
+{
+    let s = k / 2 + 1;
+    if k % 2 == 0 {
+        near(u + u, v, s)
+    } else {
+        near(v, u, s)
+    }
 }

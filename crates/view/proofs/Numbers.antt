@@ -1,0 +1,77 @@
+-- Small machine integers: read back from their bits they are themselves, and their negatives, sums and differences are exact. And what a
+-- multiplication by omega does to the coefficients. Assumes nothing.
+use mathlib.Core.Path.{_≡_, refl, sym, _∙_, ap, ap₂, subst}
+use mathlib.Core.List.{List, []}
+use Prim.Native.Nat.{ℕ, suc, _+_, _*_, _%_, _^_, _≤_, _<_}
+use native.Mathlib.Nat.{le-trans}
+use native.Mathlib.Numerals.{add-one}
+use native.Mathlib.Omega.{arith}
+use lib.Dec.{lit≤}
+use lib.IntN.{ℤ, pos, negℤ, natAbs, _+ℤ_, _-ℤ_, +ℤ-idl}
+use mir.Syntax.{w64}
+use mir.Val.{SFits, toZ, ofZ}
+use mir.ValLaws.{toZ-ofZ}
+use Rattle.exact.specs.Whole.Size.{sfits-abs, natAbs-neg, natAbs-add, natAbs-sub}
+use Rattle.exact.specs.Meaning.Number.{Quad, Ω, ints, omegas, mulQ, omega′, omega^}
+use Rattle.exact.specs.Algebra.Ring.{ints-laws}
+use Rattle.exact.specs.Algebra.Solver.{exprs, ⊖, _⊗_, ring₃}
+use Rattle.exact.specs.Algebra.Omega.{omegas-laws, X₀, parts, solveQ}
+use Rattle.exact.specs.Algebra.OmegaPower.{omega^-mod}
+
+-- a number, stored and read back
+abbrev pub held : ℤ → ℤ
+held z = toZ w64 (ofZ w64 z)
+
+small : (z : ℤ) → natAbs z ≤ 2 ^ 32 → SFits w64 z
+small z h = sfits-abs (omega arith)
+
+pub held-is : (z : ℤ) → natAbs z ≤ 2 ^ 32 → held z ≡ z
+held-is z h = toZ-ofZ w64 z (small z h)
+
+module _ (x y : ℤ) (hx : natAbs x ≤ 2 ^ 31) (hy : natAbs y ≤ 2 ^ 31) where
+  held-x : held x ≡ x
+  held-x = held-is x (omega arith)
+
+  held-y : held y ≡ y
+  held-y = held-is y (omega arith)
+
+  pub sum-fits : SFits w64 (held x +ℤ held y)
+  sum-fits = rw (held-x, held-y) (small (x +ℤ y) (omega (arith, natAbs-add x y)))
+
+  pub sum-held : held (held x +ℤ held y) ≡ x +ℤ y
+  sum-held = ap₂ (λ m n. held (m +ℤ n)) held-x held-y ∙ held-is (x +ℤ y) (omega (arith, natAbs-add x y))
+
+  pub difference-fits : SFits w64 (held x -ℤ held y)
+  difference-fits = rw (held-x, held-y) (small (x -ℤ y) (omega (arith, natAbs-sub x y)))
+
+  pub difference-held : held (held x -ℤ held y) ≡ x -ℤ y
+  difference-held = ap₂ (λ m n. held (m -ℤ n)) held-x held-y ∙ held-is (x -ℤ y) (omega (arith, natAbs-sub x y))
+
+module _ (x : ℤ) (h : natAbs x ≤ 2 ^ 30) where
+  pub minus-fits : SFits w64 (pos 0 -ℤ held x)
+  minus-fits = difference-fits (pos 0) x (lit≤ tt) (omega arith)
+
+  pub minus-held : held (pos 0 -ℤ held x) ≡ negℤ x
+  minus-held = difference-held (pos 0) x (lit≤ tt) (omega arith) ∙ +ℤ-idl (negℤ x)
+
+  pub same-held : held x ≡ x
+  same-held = held-is x (omega arith)
+
+-- ---- omega
+pub omega-times : (x : Ω) → mulQ ints (omega′ ints) x ≡ record { a = x .b; b = x .c; c = x .d; d = negℤ (x .a) }
+omega-times x = solveQ ints ints-laws (parts x []) (mulQ exprs (omega′ exprs) X₀) (record { a = X₀ .b; b = X₀ .c; c = X₀ .d; d = ⊖ (X₀ .a) }) (tt, tt, tt, tt)
+
+pub one-more : (x y r : Ω) (i : ℕ) → y ≡ mulQ ints x (omega^ i) → r ≡ mulQ ints (omega′ ints) y → r ≡ mulQ ints x (omega^ (i + 1))
+one-more x y r i e f =
+    f ∙ ap (mulQ ints (omega′ ints)) e
+    ∙ ring₃ omegas omegas-laws (λ w x u. w ⊗ (x ⊗ u)) (λ w x u. x ⊗ (w ⊗ u)) tt (omega′ ints) x (omega^ i)
+    ∙ ap (λ n. mulQ ints x (omega^ n)) (sym (add-one i))
+
+pub all-turns : (x y : Ω) (i n : ℕ) → y ≡ mulQ ints x (omega^ i) → i ≡ n % 8 → y ≡ mulQ ints x (omega^ n)
+all-turns x y i n e f = e ∙ ap (λ m. mulQ ints x (omega^ m)) f ∙ ap (mulQ ints x) (sym (omega^-mod n))
+
+pub start : (x : Ω) → x ≡ mulQ ints x (omega^ 0)
+start x = sym (omegas-laws .mul-comm x (omega^ 0) ∙ omegas-laws .one-mul x)
+
+pub under-31 : {n : ℕ} → n ≤ 2 ^ 30 → n ≤ 2 ^ 31
+under-31 h = omega arith
