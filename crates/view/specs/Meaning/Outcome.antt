@@ -3,8 +3,8 @@
 use mathlib.Core.Path.{_≡_}
 use Prim.Native.Nat.{ℕ, _≤_}
 use lib.IntN.{ℤ, pos, natAbs}
-use lib.Ieee.{Float, fin}
-use mathlib.Core.Bool.{false}
+use lib.Signed.{_≤ℤ_}
+use lib.Ieee.{Float, binary64, ofBits}
 use Rattle.exact.specs.Meaning.Number.{Quad, Ω}
 use Rattle.exact.specs.Meaning.Matrix.{Mat, Matrix}
 use Rattle.exact.specs.Meaning.Triple.{Triple, entries, Unitary}
@@ -13,6 +13,7 @@ use Rattle.view.specs.Meaning.Surd.{real, imaginary}
 use Rattle.view.specs.Meaning.Near.{Shows}
 use Rattle.view.specs.declared.View.{View}
 
+-- ---- an accepted triple
 -- re and im show the two parts of x over root two to the k
 pub record Entry (k : ℕ) (x : Ω) (re im : Float) : Type 0 where
   pub re-shown : Shows (real k x) re
@@ -24,3 +25,33 @@ pub record Viewed (t : Triple) (v : View) : Type 0 where
   pub q : Entry (t .k) (entries t .m .q) (v .re01) (v .im01)
   pub r : Entry (t .k) (entries t .m .r) (v .re10) (v .im10)
   pub s : Entry (t .k) (entries t .m .s) (v .re11) (v .im11)
+
+-- ---- every input
+-- from 0 to 60
+pub record ExponentFits (k : ℤ) : Type 0 where
+  pub low : pos 0 ≤ℤ k
+  pub high : k ≤ℤ pos Limits.deepest
+
+-- each from -2^30 to 2^30
+pub record CoefficientsFit (x : Ω) : Type 0 where
+  pub a-fits : natAbs (x .a) ≤ Limits.largest
+  pub b-fits : natAbs (x .b) ≤ Limits.largest
+  pub c-fits : natAbs (x .c) ≤ Limits.largest
+  pub d-fits : natAbs (x .d) ≤ Limits.largest
+
+-- the triple of an exponent that is not below 0
+abbrev pub triple : ℤ → ℕ → Ω → Ω → Triple
+triple k n z w = record { k = natAbs k; n = n; z = z; w = w }
+
+-- +0
+abbrev pub nil : Float
+nil = ofBits binary64 0
+
+abbrev pub nils : View
+nils = record { re00 = nil; im00 = nil; re01 = nil; im01 = nil; re10 = nil; im10 = nil; re11 = nil; im11 = nil }
+
+pub data Outcome (k : ℤ) (n : ℕ) (z w : Ω) (refusal : ℕ) (v : View) : Type 0 where
+  exponent : (ExponentFits k → ⊥) → refusal ≡ Limits.Exponent → v ≡ nils → Outcome k n z w refusal v
+  coefficient : ExponentFits k → (CoefficientsFit z × CoefficientsFit w → ⊥) → refusal ≡ Limits.Coefficient → v ≡ nils → Outcome k n z w refusal v
+  unitary : ExponentFits k → CoefficientsFit z × CoefficientsFit w → (Unitary (triple k n z w) → ⊥) → refusal ≡ Limits.Unitary → v ≡ nils → Outcome k n z w refusal v
+  accepted : ExponentFits k → CoefficientsFit z × CoefficientsFit w → Unitary (triple k n z w) → refusal ≡ Limits.Accepted → Viewed (triple k n z w) v → Outcome k n z w refusal v
