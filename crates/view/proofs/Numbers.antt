@@ -6,17 +6,20 @@ use Prim.Native.Nat.{ℕ, suc, _+_, _*_, _%_, _^_, _≤_, _<_}
 use native.Mathlib.Nat.{le-trans}
 use native.Mathlib.Numerals.{add-one}
 use native.Mathlib.Omega.{arith}
-use lib.Dec.{lit≤}
-use lib.IntN.{ℤ, pos, negℤ, natAbs, _+ℤ_, _-ℤ_, +ℤ-idl}
-use mir.Syntax.{w64}
-use mir.Val.{SFits, toZ, ofZ}
+use lib.Dec.{T, lit≤}
+use lib.IntN.{ℤ, pos, negsuc, negℤ, natAbs, _+ℤ_, _-ℤ_, +ℤ-idl}
+use lib.Signed.{nonNeg, yes-nonNeg}
+use mir.Syntax.{w32, w64}
+use mir.Val.{Fits, SFits, toZ, ofZ}
+use Rattle.exact.specs.Whole.Linear.{≤ℤ→}
 use mir.ValLaws.{toZ-ofZ}
 use Rattle.exact.specs.Whole.Size.{sfits-abs, natAbs-neg, natAbs-add, natAbs-sub}
 use Rattle.exact.specs.Meaning.Number.{Quad, Ω, ints, omegas, mulQ, omega′, omega^}
 use Rattle.exact.specs.Algebra.Ring.{ints-laws}
 use Rattle.exact.specs.Algebra.Solver.{exprs, ⊖, _⊗_, ring₃}
-use Rattle.exact.specs.Algebra.Omega.{omegas-laws, X₀, parts, solveQ}
+use Rattle.exact.specs.Algebra.Omega.{omegas-laws, quad-path, X₀, parts, solveQ}
 use Rattle.exact.specs.Algebra.OmegaPower.{omega^-mod}
+use Rattle.view.specs.Meaning.Outcome.{quad, triple, ExponentFits}
 
 -- a number, stored and read back
 abbrev pub held : ℤ → ℤ
@@ -75,3 +78,21 @@ start x = sym (omegas-laws .mul-comm x (omega^ 0) ∙ omegas-laws .one-mul x)
 
 pub under-31 : {n : ℕ} → n ≤ 2 ^ 30 → n ≤ 2 ^ 31
 under-31 h = omega arith
+
+-- ---- arguments, stored and read back
+pub quad-held : (a b c d : ℤ) → SFits w64 a → SFits w64 b → SFits w64 c → SFits w64 d → quad (held a) (held b) (held c) (held d) ≡ quad a b c d
+quad-held a b c d p q r s = quad-path (toZ-ofZ w64 a p) (toZ-ofZ w64 b q) (toZ-ofZ w64 c r) (toZ-ofZ w64 d s)
+
+pub triple-held : (k : ℤ) (n : ℕ) (z z' w w' : Ω) → SFits w64 k → z ≡ z' → w ≡ w' → triple (held k) n z w ≡ triple k n z' w'
+triple-held k n z z' w w' f p q = λ i. triple (toZ-ofZ w64 k f i) n (p i) (q i)
+
+-- ---- an exponent from 0 to 60
+pub exponent-held : (k : ℤ) → SFits w64 k → ExponentFits k → ExponentFits (held k)
+exponent-held k f e = subst ExponentFits (sym (toZ-ofZ w64 k f)) e
+
+pub exponent-few : (k : ℤ) → ExponentFits k → natAbs k ≤ 60
+exponent-few (pos n) e = omega (arith, ≤ℤ→ (e .high))
+exponent-few (negsuc n) e = absurd (omega (arith, ≤ℤ→ (e .low)))
+
+pub exponent-casts : (k : ℤ) → ExponentFits k → T (nonNeg k) × Fits w32 (natAbs k)
+exponent-casts k e = (yes-nonNeg (e .low), record { fits = omega (arith, exponent-few k e) })

@@ -1,14 +1,18 @@
 -- Two outcomes of job 7 for one input are equal, float by float. Assumes nothing.
-use mathlib.Core.Path.{_≡_, sym, _∙_}
+use mathlib.Core.Path.{_≡_, sym, _∙_, subst}
+use mathlib.Core.Bool.{Bool, true, false, not}
 use Prim.Native.Nat.{ℕ}
+use native.Mathlib.Omega.{arith}
+use lib.Dec.{T, eqb, eqb→eq}
 use lib.IntN.{ℤ}
 use lib.Ieee.{Float}
 use Rattle.exact.specs.Meaning.Number.{Ω}
-use Rattle.exact.specs.Meaning.Triple.{Triple}
+use Rattle.exact.specs.Meaning.Triple.{Triple, Unitary}
 use Rattle.view.specs.Meaning.Surd.{Surd}
 use Rattle.view.specs.Meaning.Near.{Shows}
-use Rattle.view.specs.Meaning.Outcome.{Entry, Viewed, Outcome, exponent, coefficient, unitary, accepted}
-use Rattle.view.specs.declared.View.{View}
+use Rattle.view.specs.Meaning.Outcome.{Entry, Viewed, ExponentFits, triple, Checked, exponent, coefficient, unitary, accepted, Outcome}
+use Rattle.view.specs.declared.matrix.View.{View}
+use Rattle.view.specs.declared.Answer.{Answer}
 
 pub shows-unique : {q : Surd} {r r' : Float} → Shows q r → Shows q r' → r ≡ r'
 shows-unique a b = a .is ∙ sym (b .is)
@@ -23,20 +27,40 @@ viewed-unique a b = view-path
     (shows-unique (a .r .re-shown) (b .r .re-shown)) (shows-unique (a .r .im-shown) (b .r .im-shown))
     (shows-unique (a .s .re-shown) (b .s .re-shown)) (shows-unique (a .s .im-shown) (b .s .im-shown))
 
-pub outcome-unique : {k : ℤ} {n : ℕ} {z w : Ω} {m m' : ℕ} {v v' : View} → Outcome k n z w m v → Outcome k n z w m' v' → (m ≡ m') × (v ≡ v')
-outcome-unique (exponent a e p) (exponent b f q) = (e ∙ sym f, p ∙ sym q)
-outcome-unique (exponent a e p) (coefficient b c f q) = absurd (a b)
-outcome-unique (exponent a e p) (unitary b c d f q) = absurd (a b)
-outcome-unique (exponent a e p) (accepted b c d f q) = absurd (a b)
-outcome-unique (coefficient a b e p) (exponent c f q) = absurd (c a)
-outcome-unique (coefficient a b e p) (coefficient c d f q) = (e ∙ sym f, p ∙ sym q)
-outcome-unique (coefficient a b e p) (unitary c d g f q) = absurd (b d)
-outcome-unique (coefficient a b e p) (accepted c d g f q) = absurd (b d)
-outcome-unique (unitary a b c e p) (exponent d f q) = absurd (d a)
-outcome-unique (unitary a b c e p) (coefficient d g f q) = absurd (g b)
-outcome-unique (unitary a b c e p) (unitary d g h f q) = (e ∙ sym f, p ∙ sym q)
-outcome-unique (unitary a b c e p) (accepted d g h f q) = absurd (c h)
-outcome-unique (accepted a b c e p) (exponent d f q) = absurd (d a)
-outcome-unique (accepted a b c e p) (coefficient d g f q) = absurd (g b)
-outcome-unique (accepted a b c e p) (unitary d g h f q) = absurd (h c)
-outcome-unique (accepted a b c e p) (accepted d g h f q) = (e ∙ sym f, viewed-unique p q)
+pub checked-unique : {k : ℤ} {n : ℕ} {z w : Ω} {m m' : ℕ} → Checked k n z w m → Checked k n z w m' → m ≡ m'
+checked-unique (exponent a e) (exponent b f) = e ∙ sym f
+checked-unique (exponent a e) (coefficient b c f) = absurd (a b)
+checked-unique (exponent a e) (unitary b c d f) = absurd (a b)
+checked-unique (exponent a e) (accepted b c d f) = absurd (a b)
+checked-unique (coefficient a b e) (exponent c f) = absurd (c a)
+checked-unique (coefficient a b e) (coefficient c d f) = e ∙ sym f
+checked-unique (coefficient a b e) (unitary c d g f) = absurd (b d)
+checked-unique (coefficient a b e) (accepted c d g f) = absurd (b d)
+checked-unique (unitary a b c e) (exponent d f) = absurd (d a)
+checked-unique (unitary a b c e) (coefficient d g f) = absurd (g b)
+checked-unique (unitary a b c e) (unitary d g h f) = e ∙ sym f
+checked-unique (unitary a b c e) (accepted d g h f) = absurd (c h)
+checked-unique (accepted a b c e) (exponent d f) = absurd (d a)
+checked-unique (accepted a b c e) (coefficient d g f) = absurd (g b)
+checked-unique (accepted a b c e) (unitary d g h f) = absurd (h c)
+checked-unique (accepted a b c e) (accepted d g h f) = e ∙ sym f
+
+answer-path : {o o' : Answer} → o .refusal ≡ o' .refusal → o .view ≡ o' .view → o ≡ o'
+answer-path e f = λ i. record { refusal = e i; view = f i }
+
+pub outcome-unique : {k : ℤ} {n : ℕ} {z w : Ω} {o o' : Answer} → Outcome k n z w o → Outcome k n z w o' → o ≡ o'
+outcome-unique {k} {n} {z} {w} {o} {o'} a b = answer-path same (views (eqb (o .refusal) 0) (eqb→eq (o .refusal) 0) (λ t e. absurd (subst (λ m. T (not (eqb m 0))) e t)))
+  where
+    same : o .refusal ≡ o' .refusal
+    same = checked-unique (a .checked) (b .checked)
+
+    views : (q : Bool) → (T q → o .refusal ≡ 0) → (T (not q) → o .refusal ≡ 0 → ⊥) → o .view ≡ o' .view
+    views true y e = viewed-unique (a .shown (y tt)) (b .shown (sym same ∙ y tt))
+    views false y e = a .refused (e tt) ∙ sym (b .refused (λ h. e tt (same ∙ h)))
+
+-- what is not refused is within the limits and unitary
+pub accepted-only : {k : ℤ} {n : ℕ} {z w : Ω} {m : ℕ} → Checked k n z w m → m ≡ 0 → ExponentFits k × Unitary (triple k n z w)
+accepted-only (exponent a e) h = absurd (omega (arith, e, h))
+accepted-only (coefficient a b e) h = absurd (omega (arith, e, h))
+accepted-only (unitary a b c e) h = absurd (omega (arith, e, h))
+accepted-only (accepted a b c e) h = (a, c)

@@ -11,7 +11,8 @@ use Rattle.exact.specs.Meaning.Triple.{Triple, entries, Unitary}
 use Rattle.exact.specs.Meaning.Limits as Limits
 use Rattle.view.specs.Meaning.Surd.{real, imaginary}
 use Rattle.view.specs.Meaning.Near.{Shows}
-use Rattle.view.specs.declared.View.{View}
+use Rattle.view.specs.declared.matrix.View.{View}
+use Rattle.view.specs.declared.Answer.{Answer}
 
 -- ---- an accepted triple
 -- re and im show the two parts of x over root two to the k
@@ -43,15 +44,24 @@ pub record CoefficientsFit (x : Ω) : Type 0 where
 abbrev pub triple : ℤ → ℕ → Ω → Ω → Triple
 triple k n z w = record { k = natAbs k; n = n; z = z; w = w }
 
+abbrev pub quad : ℤ → ℤ → ℤ → ℤ → Ω
+quad a b c d = record { a = a; b = b; c = c; d = d }
+
+-- which refusal, if any: the first that applies
+pub data Checked (k : ℤ) (n : ℕ) (z w : Ω) (refusal : ℕ) : Type 0 where
+  exponent : (ExponentFits k → ⊥) → refusal ≡ Limits.Exponent → Checked k n z w refusal
+  coefficient : ExponentFits k → (CoefficientsFit z × CoefficientsFit w → ⊥) → refusal ≡ Limits.Coefficient → Checked k n z w refusal
+  unitary : ExponentFits k → CoefficientsFit z × CoefficientsFit w → (Unitary (triple k n z w) → ⊥) → refusal ≡ Limits.Unitary → Checked k n z w refusal
+  accepted : ExponentFits k → CoefficientsFit z × CoefficientsFit w → Unitary (triple k n z w) → refusal ≡ Limits.Accepted → Checked k n z w refusal
+
 -- +0
 abbrev pub nil : Float
 nil = ofBits binary64 0
 
-abbrev pub nils : View
-nils = record { re00 = nil; im00 = nil; re01 = nil; im01 = nil; re10 = nil; im10 = nil; re11 = nil; im11 = nil }
+abbrev pub nothing : View
+nothing = record { re00 = nil; im00 = nil; re01 = nil; im01 = nil; re10 = nil; im10 = nil; re11 = nil; im11 = nil }
 
-pub data Outcome (k : ℤ) (n : ℕ) (z w : Ω) (refusal : ℕ) (v : View) : Type 0 where
-  exponent : (ExponentFits k → ⊥) → refusal ≡ Limits.Exponent → v ≡ nils → Outcome k n z w refusal v
-  coefficient : ExponentFits k → (CoefficientsFit z × CoefficientsFit w → ⊥) → refusal ≡ Limits.Coefficient → v ≡ nils → Outcome k n z w refusal v
-  unitary : ExponentFits k → CoefficientsFit z × CoefficientsFit w → (Unitary (triple k n z w) → ⊥) → refusal ≡ Limits.Unitary → v ≡ nils → Outcome k n z w refusal v
-  accepted : ExponentFits k → CoefficientsFit z × CoefficientsFit w → Unitary (triple k n z w) → refusal ≡ Limits.Accepted → Viewed (triple k n z w) v → Outcome k n z w refusal v
+pub record Outcome (k : ℤ) (n : ℕ) (z w : Ω) (o : Answer) : Type 0 where
+  pub checked : Checked k n z w (o .refusal)
+  pub refused : (o .refusal ≡ Limits.Accepted → ⊥) → o .view ≡ nothing
+  pub shown : o .refusal ≡ Limits.Accepted → Viewed (triple k n z w) (o .view)

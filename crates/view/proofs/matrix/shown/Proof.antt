@@ -5,8 +5,8 @@ use native.Mathlib.Nat.{le-refl}
 use Rattle.exact.specs.Meaning.Number.{Ω, ints, mulQ, negQ, conjQ, omega^}
 use Rattle.view.specs.Meaning.Outcome.{Entry}
 use Rattle.view.specs.Size.{ring, size, size-neg, size-conj, size-power, z-size, w-size, at-most-60}
-use Rattle.view.proofs.shown.Statement.{statement}
-use Rattle.view.proofs.shown.Tie as tie
+use Rattle.view.proofs.matrix.shown.Statement.{statement}
+use Rattle.view.proofs.matrix.shown.Tie as tie
 
 -- a conjugate, turned, and with a minus, is as large as the number
 module _ (x y t r : Ω) (n m : ℕ) (h : size x ≤ m) (e : y ≡ conjQ ints x) where
