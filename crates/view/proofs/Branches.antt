@@ -16,17 +16,17 @@ use Rattle.view.specs.Size.{Fit}
 use Rattle.view.proofs.Numbers.{held, held-is, sum-fits, sum-held}
 
 abbrev at-even : ℕ → ℤ → ℤ → Surd
-at-even k u v = record { A = u +ℤ u; B = v; s = k / 2 + 1 }
+at-even k u v = record { A = u +ℤ u; B = v; s = (k + 2) / 2 }
 
 abbrev at-odd : ℕ → ℤ → ℤ → Surd
-at-odd k u v = record { A = v; B = u; s = k / 2 + 1 }
+at-odd k u v = record { A = v; B = u; s = (k + 2) / 2 }
 
 module _ (k : ℕ) (u v : ℤ) where
   even-is : k % 2 ≡ 0 → over k u v ≡ at-even k u v
-  even-is e = ap (λ n. record { A = cond (eqb n 0) (u +ℤ u) v; B = cond (eqb n 0) v u; s = k / 2 + 1 }) e
+  even-is e = ap (λ n. record { A = cond (eqb n 0) (u +ℤ u) v; B = cond (eqb n 0) v u; s = (k + 2) / 2 }) e
 
   odd-is : (k % 2 ≡ 0 → ⊥) → over k u v ≡ at-odd k u v
-  odd-is e = ap (λ b. record { A = cond b (u +ℤ u) v; B = cond b v u; s = k / 2 + 1 }) (is (eqb (k % 2) 0) (λ t. e (eqb→eq (k % 2) 0 t)))
+  odd-is e = ap (λ b. record { A = cond b (u +ℤ u) v; B = cond b v u; s = (k + 2) / 2 }) (is (eqb (k % 2) 0) (λ t. e (eqb→eq (k % 2) 0 t)))
     where
       is : (b : Bool) → (T b → ⊥) → b ≡ false
       is true f = absurd (f tt)
@@ -44,9 +44,6 @@ module _ (q : Surd) (f : Fit q) where
   B-31 : natAbs (q .B) ≤ 2 ^ 31
   B-31 = le-trans (f .B-small) (pow-mono (f .s-few))
 
-held-31 : (z : ℤ) → natAbs z ≤ 2 ^ 31 → held z ≡ z
-held-31 z h = held-is z (omega arith)
-
 -- what `near` asks of its arguments
 abbrev Asks : Surd → Type 0
 Asks q = (q .s ≤ 52) × (natAbs (q .A) ≤ 2 ^ q .s) × (natAbs (q .B) ≤ 2 ^ q .s)
@@ -63,10 +60,10 @@ module _ (k : ℕ) (u v : ℤ) (f : Fit (over k u v)) (e : k % 2 ≡ 0) where
   u-31 = le-trans (half-size u) (A-31 (at-even k u v) fit-even)
 
   abbrev even-args : Surd
-  even-args = record { A = held (held u +ℤ held u); B = held v; s = k / 2 + 1 }
+  even-args = record { A = held (held u +ℤ held u); B = held v; s = (k + 2) / 2 }
 
   even-args-are : even-args ≡ at-even k u v
-  even-args-are = ap₂ (λ a b. record { A = a; B = b; s = k / 2 + 1 }) (sum-held u u u-31 u-31) (held-31 v (B-31 (at-even k u v) fit-even))
+  even-args-are = ap₂ (λ a b. record { A = a; B = b; s = (k + 2) / 2 }) (sum-held u u u-31 u-31) (held-is v (B-31 (at-even k u v) fit-even))
 
   pub doubled-fits : SFits w64 (held u +ℤ held u)
   doubled-fits = sum-fits u u u-31 u-31
@@ -82,10 +79,10 @@ module _ (k : ℕ) (u v : ℤ) (f : Fit (over k u v)) (e : k % 2 ≡ 0 → ⊥) 
   fit-odd = subst Fit (odd-is k u v e) f
 
   abbrev odd-args : Surd
-  odd-args = record { A = held v; B = held u; s = k / 2 + 1 }
+  odd-args = record { A = held v; B = held u; s = (k + 2) / 2 }
 
   odd-args-are : odd-args ≡ at-odd k u v
-  odd-args-are = ap₂ (λ a b. record { A = a; B = b; s = k / 2 + 1 }) (held-31 v (A-31 (at-odd k u v) fit-odd)) (held-31 u (B-31 (at-odd k u v) fit-odd))
+  odd-args-are = ap₂ (λ a b. record { A = a; B = b; s = (k + 2) / 2 }) (held-is v (A-31 (at-odd k u v) fit-odd)) (held-is u (B-31 (at-odd k u v) fit-odd))
 
   pub asked-odd : Asks odd-args
   asked-odd = subst Asks (sym odd-args-are) (asked (at-odd k u v) fit-odd)

@@ -1,7 +1,7 @@
 -- Small machine integers: read back from their bits they are themselves, and their negatives, sums and differences are exact. And what a
 -- multiplication by omega does to the coefficients. Assumes nothing.
 use mathlib.Core.Path.{_≡_, refl, sym, _∙_, ap, ap₂, subst}
-use mathlib.Core.List.{List, []}
+use mathlib.Core.List.{List, [], _∷_}
 use Prim.Native.Nat.{ℕ, suc, _+_, _*_, _%_, _^_, _≤_, _<_}
 use native.Mathlib.Nat.{le-trans}
 use native.Mathlib.Numerals.{add-one}
@@ -13,7 +13,9 @@ use mir.Syntax.{w32, w64}
 use mir.Val.{Fits, SFits, toZ, ofZ}
 use Rattle.exact.specs.Whole.Linear.{≤ℤ→}
 use mir.ValLaws.{toZ-ofZ}
-use Rattle.exact.specs.Whole.Size.{sfits-abs, natAbs-neg, natAbs-add, natAbs-sub}
+use Rattle.exact.specs.Whole.Size.{Within}
+use Rattle.exact.specs.Whole.Machine as Machine
+use Rattle.exact.specs.Whole.Machine.{arg, _∔_, _∸_, need-by, result-by}
 use Rattle.exact.specs.Meaning.Number.{Quad, Ω, ints, omegas, mulQ, omega′, omega^}
 use Rattle.exact.specs.Algebra.Ring.{ints-laws}
 use Rattle.exact.specs.Algebra.Solver.{exprs, ⊖, _⊗_, ring₃}
@@ -23,42 +25,39 @@ use Rattle.view.specs.Meaning.Outcome.{quad, triple, ExponentFits}
 
 -- a number, stored and read back
 abbrev pub held : ℤ → ℤ
-held z = toZ w64 (ofZ w64 z)
+held = Machine.held w64
 
-small : (z : ℤ) → natAbs z ≤ 2 ^ 32 → SFits w64 z
-small z h = sfits-abs (omega arith)
-
-pub held-is : (z : ℤ) → natAbs z ≤ 2 ^ 32 → held z ≡ z
-held-is z h = toZ-ofZ w64 z (small z h)
+pub held-is : (z : ℤ) → natAbs z ≤ 2 ^ 31 → held z ≡ z
+held-is z h = result-by w64 (z ∷ []) (2 ^ 31 ∷ []) (h, tt) (arg 0) tt
 
 module _ (x y : ℤ) (hx : natAbs x ≤ 2 ^ 31) (hy : natAbs y ≤ 2 ^ 31) where
-  held-x : held x ≡ x
-  held-x = held-is x (omega arith)
-
-  held-y : held y ≡ y
-  held-y = held-is y (omega arith)
+  within : Within (x ∷ y ∷ []) (2 ^ 31 ∷ 2 ^ 31 ∷ [])
+  within = (hx, (hy, tt))
 
   pub sum-fits : SFits w64 (held x +ℤ held y)
-  sum-fits = rw (held-x, held-y) (small (x +ℤ y) (omega (arith, natAbs-add x y)))
+  sum-fits = need-by w64 (x ∷ y ∷ []) (2 ^ 31 ∷ 2 ^ 31 ∷ []) within (arg 0 ∔ arg 1) tt
 
   pub sum-held : held (held x +ℤ held y) ≡ x +ℤ y
-  sum-held = ap₂ (λ m n. held (m +ℤ n)) held-x held-y ∙ held-is (x +ℤ y) (omega (arith, natAbs-add x y))
+  sum-held = result-by w64 (x ∷ y ∷ []) (2 ^ 31 ∷ 2 ^ 31 ∷ []) within (arg 0 ∔ arg 1) tt
 
   pub difference-fits : SFits w64 (held x -ℤ held y)
-  difference-fits = rw (held-x, held-y) (small (x -ℤ y) (omega (arith, natAbs-sub x y)))
+  difference-fits = need-by w64 (x ∷ y ∷ []) (2 ^ 31 ∷ 2 ^ 31 ∷ []) within (arg 0 ∸ arg 1) tt
 
   pub difference-held : held (held x -ℤ held y) ≡ x -ℤ y
-  difference-held = ap₂ (λ m n. held (m -ℤ n)) held-x held-y ∙ held-is (x -ℤ y) (omega (arith, natAbs-sub x y))
+  difference-held = result-by w64 (x ∷ y ∷ []) (2 ^ 31 ∷ 2 ^ 31 ∷ []) within (arg 0 ∸ arg 1) tt
+
+pub under-31 : {n : ℕ} → n ≤ 2 ^ 30 → n ≤ 2 ^ 31
+under-31 h = omega arith
 
 module _ (x : ℤ) (h : natAbs x ≤ 2 ^ 30) where
   pub minus-fits : SFits w64 (pos 0 -ℤ held x)
-  minus-fits = difference-fits (pos 0) x (lit≤ tt) (omega arith)
+  minus-fits = difference-fits (pos 0) x (lit≤ tt) (under-31 h)
 
   pub minus-held : held (pos 0 -ℤ held x) ≡ negℤ x
-  minus-held = difference-held (pos 0) x (lit≤ tt) (omega arith) ∙ +ℤ-idl (negℤ x)
+  minus-held = difference-held (pos 0) x (lit≤ tt) (under-31 h) ∙ +ℤ-idl (negℤ x)
 
   pub same-held : held x ≡ x
-  same-held = held-is x (omega arith)
+  same-held = held-is x (under-31 h)
 
 -- ---- omega
 pub omega-times : (x : Ω) → mulQ ints (omega′ ints) x ≡ record { a = x .b; b = x .c; c = x .d; d = negℤ (x .a) }
@@ -75,9 +74,6 @@ all-turns x y i n e f = e ∙ ap (λ m. mulQ ints x (omega^ m)) f ∙ ap (mulQ i
 
 pub start : (x : Ω) → x ≡ mulQ ints x (omega^ 0)
 start x = sym (omegas-laws .mul-comm x (omega^ 0) ∙ omegas-laws .one-mul x)
-
-pub under-31 : {n : ℕ} → n ≤ 2 ^ 30 → n ≤ 2 ^ 31
-under-31 h = omega arith
 
 -- ---- arguments, stored and read back
 pub quad-held : (a b c d : ℤ) → SFits w64 a → SFits w64 b → SFits w64 c → SFits w64 d → quad (held a) (held b) (held c) (held d) ≡ quad a b c d

@@ -15,6 +15,7 @@ use Rattle.exact.specs.Algebra.Ring.{ints-laws}
 use Rattle.exact.specs.Algebra.Solver.{Expr, con, _⊕_, _⊗_, _⊝_, exprs, solve, ring₁, ring₂, ring₃}
 use Rattle.exact.specs.Algebra.Omega.{omegas-laws, X₀, X₁, parts}
 use Rattle.view.specs.Meaning.Surd.{Surd, even, over, real, imaginary}
+use Rattle.view.specs.Meaning.Outcome.{CoefficientsFit}
 use Rattle.view.specs.declared.number.Number.{Number}
 
 -- what a machine's four numbers stand for
@@ -51,11 +52,11 @@ unfolding size
 size-is x = ap natAbs (squares-are x)
 
 -- ---- what keeps it
-pub size-neg : (x : Ω) → size (negQ ints x) ≡ size x
+size-neg : (x : Ω) → size (negQ ints x) ≡ size x
 unfolding size
 size-neg x = ap natAbs (solve ints ints-laws (parts x []) (squares exprs (negQ exprs X₀)) (squares exprs X₀) tt)
 
-pub size-conj : (x : Ω) → size (conjQ ints x) ≡ size x
+size-conj : (x : Ω) → size (conjQ ints x) ≡ size x
 unfolding size
 size-conj x = ap natAbs (solve ints ints-laws (parts x []) (squares exprs (conjQ exprs X₀)) (squares exprs X₀) tt)
 
@@ -63,9 +64,20 @@ size-omega : (x u : Ω) → size (mulQ ints x (mulQ ints (omega′ ints) u)) ≡
 unfolding size
 size-omega x u = ap natAbs (solve ints ints-laws (parts x (parts u [])) (squares exprs (mulQ exprs X₀ (mulQ exprs (omega′ exprs) X₁))) (squares exprs (mulQ exprs X₀ X₁)) tt)
 
-pub size-power : (x : Ω) (n : ℕ) → size (mulQ ints x (omega^ n)) ≡ size x
+size-power : (x : Ω) (n : ℕ) → size (mulQ ints x (omega^ n)) ≡ size x
 size-power x zero = ap size (omegas-laws .mul-comm x (omega^ 0) ∙ omegas-laws .one-mul x)
 size-power x (suc n) = size-omega x (omega^ n) ∙ size-power x n
+
+-- the same by what a number is: each is as small as x is
+module _ (x y : Ω) (m : ℕ) (h : size x ≤ m) where
+  pub small-neg : y ≡ negQ ints x → size y ≤ m
+  small-neg e = rw (ap size e ∙ size-neg x) h
+
+  pub small-conj : y ≡ conjQ ints x → size y ≤ m
+  small-conj e = rw (ap size e ∙ size-conj x) h
+
+  pub small-power : (n : ℕ) → y ≡ mulQ ints x (omega^ n) → size y ≤ m
+  small-power n e = rw (ap size e ∙ size-power x n) h
 
 -- ---- the coefficients
 positive : (m n : ℕ) → m < n → 0 < n
@@ -74,19 +86,13 @@ positive m n h = omega arith
 root-le : (n m : ℕ) → n * n ≤ m * m → n ≤ m
 root-le n m h = le-of-suc-le-suc (lt-of-not-le (λ (g : suc m ≤ n). not-le-of-lt (lt-of-le-of-lt (mul-le-mul-left m (le-of-lt g)) (mul-lt-mul-of-pos-right g (positive m n g))) h))
 
--- each coefficient is at most 2 to the 30 in size
-pub record Coefficients (x : Ω) : Type 0 where
-  pub a-small : natAbs (x .a) ≤ 2 ^ 30
-  pub b-small : natAbs (x .b) ≤ 2 ^ 30
-  pub c-small : natAbs (x .c) ≤ 2 ^ 30
-  pub d-small : natAbs (x .d) ≤ 2 ^ 30
-
-pub coefficients : (x : Ω) → size x ≤ 2 ^ 60 → Coefficients x
+-- each coefficient is within document 01's limit
+pub coefficients : (x : Ω) → size x ≤ 2 ^ 60 → CoefficientsFit x
 coefficients x h = record {
-  a-small = root-le (natAbs (x .a)) (2 ^ 30) (omega (arith, size-is x));
-  b-small = root-le (natAbs (x .b)) (2 ^ 30) (omega (arith, size-is x));
-  c-small = root-le (natAbs (x .c)) (2 ^ 30) (omega (arith, size-is x));
-  d-small = root-le (natAbs (x .d)) (2 ^ 30) (omega (arith, size-is x));
+  a-fits = root-le (natAbs (x .a)) (2 ^ 30) (omega (arith, size-is x));
+  b-fits = root-le (natAbs (x .b)) (2 ^ 30) (omega (arith, size-is x));
+  c-fits = root-le (natAbs (x .c)) (2 ^ 30) (omega (arith, size-is x));
+  d-fits = root-le (natAbs (x .d)) (2 ^ 30) (omega (arith, size-is x));
 }
 
 -- ---- A and B
@@ -101,38 +107,38 @@ twice-square : (u : ℤ) → sq (u +ℤ u) ≡ 4 * sq u
 twice-square u = pos-same
     (sym (sq-is (u +ℤ u)) ∙ ring₁ ints ints-laws (λ u. (u ⊕ u) ⊗ (u ⊕ u)) (λ u. con (pos 4) ⊗ (u ⊗ u)) tt u ∙ ap (λ m. pos 4 *ℤ m) (sq-is u))
 
--- 2 to the s, squared, for s = k / 2 + 1
-squared-even : (k : ℕ) → k % 2 ≡ 0 → 2 ^ (k / 2 + 1) * 2 ^ (k / 2 + 1) ≡ 4 * 2 ^ k
-squared-even k e = sym (pow-add 2 (k / 2 + 1) (k / 2 + 1)) ∙ ap (λ n. 2 ^ n) (whole k e) ∙ pow-add 2 2 k
+-- 2 to the s, squared, for s = (k + 2) / 2
+squared-even : (k : ℕ) → k % 2 ≡ 0 → 2 ^ ((k + 2) / 2) * 2 ^ ((k + 2) / 2) ≡ 4 * 2 ^ k
+squared-even k e = sym (pow-add 2 ((k + 2) / 2) ((k + 2) / 2)) ∙ ap (λ n. 2 ^ n) (whole k e) ∙ pow-add 2 2 k
   where
-    whole : (k : ℕ) → k % 2 ≡ 0 → k / 2 + 1 + (k / 2 + 1) ≡ 2 + k
+    whole : (k : ℕ) → k % 2 ≡ 0 → (k + 2) / 2 + (k + 2) / 2 ≡ 2 + k
     whole k e = omega arith
 
-squared-odd : (k : ℕ) → (k % 2 ≡ 0 → ⊥) → 2 ^ (k / 2 + 1) * 2 ^ (k / 2 + 1) ≡ 2 * 2 ^ k
-squared-odd k e = sym (pow-add 2 (k / 2 + 1) (k / 2 + 1)) ∙ ap (λ n. 2 ^ n) (whole k (other k e)) ∙ pow-add 2 1 k
+squared-odd : (k : ℕ) → (k % 2 ≡ 0 → ⊥) → 2 ^ ((k + 2) / 2) * 2 ^ ((k + 2) / 2) ≡ 2 * 2 ^ k
+squared-odd k e = sym (pow-add 2 ((k + 2) / 2) ((k + 2) / 2)) ∙ ap (λ n. 2 ^ n) (whole k (other k e)) ∙ pow-add 2 1 k
   where
     other : (k : ℕ) → (k % 2 ≡ 0 → ⊥) → k % 2 ≡ 1
     other k e = omega arith
 
-    whole : (k : ℕ) → k % 2 ≡ 1 → k / 2 + 1 + (k / 2 + 1) ≡ 1 + k
+    whole : (k : ℕ) → k % 2 ≡ 1 → (k + 2) / 2 + (k + 2) / 2 ≡ 1 + k
     whole k e = omega arith
 
 pub fit-of : (k : ℕ) (u v : ℤ) → k ≤ 60 → sq u ≤ 2 ^ k → sq v ≤ 2 * 2 ^ k → Fit (over k u v)
 fit-of k u v K hu hv = go (even k) (eqb→eq (k % 2) 0) (λ t e. absurd (subst (λ n. T (not (eqb n 0))) e t))
   where
-    few : (k : ℕ) → k ≤ 60 → k / 2 + 1 ≤ 31
+    few : (k : ℕ) → k ≤ 60 → (k + 2) / 2 ≤ 31
     few k h = omega arith
 
-    go : (e : Bool) → (T e → k % 2 ≡ 0) → (T (not e) → k % 2 ≡ 0 → ⊥) → Fit (record { A = cond e (u +ℤ u) v; B = cond e v u; s = k / 2 + 1 })
+    go : (e : Bool) → (T e → k % 2 ≡ 0) → (T (not e) → k % 2 ≡ 0 → ⊥) → Fit (record { A = cond e (u +ℤ u) v; B = cond e v u; s = (k + 2) / 2 })
     go true y n = record {
       s-few = few k K;
-      A-small = root-le (natAbs (u +ℤ u)) (2 ^ (k / 2 + 1)) (omega (arith, twice-square u, squared-even k (y tt)));
-      B-small = root-le (natAbs v) (2 ^ (k / 2 + 1)) (omega (arith, squared-even k (y tt)));
+      A-small = root-le (natAbs (u +ℤ u)) (2 ^ ((k + 2) / 2)) (omega (arith, twice-square u, squared-even k (y tt)));
+      B-small = root-le (natAbs v) (2 ^ ((k + 2) / 2)) (omega (arith, squared-even k (y tt)));
     }
     go false y n = record {
       s-few = few k K;
-      A-small = root-le (natAbs v) (2 ^ (k / 2 + 1)) (omega (arith, squared-odd k (n tt)));
-      B-small = root-le (natAbs u) (2 ^ (k / 2 + 1)) (omega (arith, squared-odd k (n tt)));
+      A-small = root-le (natAbs v) (2 ^ ((k + 2) / 2)) (omega (arith, squared-odd k (n tt)));
+      B-small = root-le (natAbs u) (2 ^ ((k + 2) / 2)) (omega (arith, squared-odd k (n tt)));
     }
 
 pub real-fit : (k : ℕ) (x : Ω) → k ≤ 60 → size x ≤ 2 ^ k → Fit (real k x)

@@ -38,8 +38,11 @@ root-odd k e = ap root2^ (whole k e) ∙ ap (mulQ ints (root2 ints)) (root2^-add
     whole : (k : ℕ) → k % 2 ≡ 1 → k ≡ suc (k / 2 + k / 2)
     whole k e = omega arith
 
-scale-is : (j : ℕ) → pos (2 ^ (j + 1)) ≡ pos (2 ^ j) *ℤ pos 2
-scale-is j = ap pos (pow-add 2 j 1)
+scale-is : (k : ℕ) → pos (2 ^ ((k + 2) / 2)) ≡ pos (2 ^ (k / 2)) *ℤ pos 2
+scale-is k = ap (λ s. pos (2 ^ s)) (one-up k) ∙ ap pos (pow-add 2 (k / 2) 1)
+  where
+    one-up : (k : ℕ) → (k + 2) / 2 ≡ k / 2 + 1
+    one-up k = omega arith
 
 abbrev scalar : Expr → Quad Expr
 scalar e = record { a = con (pos 0); b = con (pos 0); c = con (pos 0); d = e }
@@ -66,14 +69,14 @@ tied k u v y f h = record { same = go (even k) (eqb→eq (k % 2) 0) (λ t e. abs
     two : Ω
     two = constQ ints (pos 2)
 
-    left : mulQ ints (constQ ints (pos (2 ^ (k / 2 + 1)))) y ≡ mulQ ints (mulQ ints p two) (mulQ ints f (doubled u v))
-    left = ap₂ (mulQ ints) (ap (constQ ints) (scale-is (k / 2)) ∙ omegas-laws .const-mul (pos (2 ^ (k / 2))) (pos 2)) h
+    left : mulQ ints (constQ ints (pos (2 ^ ((k + 2) / 2)))) y ≡ mulQ ints (mulQ ints p two) (mulQ ints f (doubled u v))
+    left = ap₂ (mulQ ints) (ap (constQ ints) (scale-is k) ∙ omegas-laws .const-mul (pos (2 ^ (k / 2))) (pos 2)) h
 
     other : (k : ℕ) → (k % 2 ≡ 0 → ⊥) → k % 2 ≡ 1
     other k e = omega arith
 
     go : (e : Bool) → (T e → k % 2 ≡ 0) → (T (not e) → k % 2 ≡ 0 → ⊥)
-        → mulQ ints (constQ ints (pos (2 ^ (k / 2 + 1)))) y ≡ mulQ ints two (mulQ ints f (mulQ ints (root2^ k) (surd (record { A = cond e (u +ℤ u) v; B = cond e v u; s = k / 2 + 1 }))))
+        → mulQ ints (constQ ints (pos (2 ^ ((k + 2) / 2)))) y ≡ mulQ ints two (mulQ ints f (mulQ ints (root2^ k) (surd (record { A = cond e (u +ℤ u) v; B = cond e v u; s = (k + 2) / 2 }))))
     go true e o =
         left
         ∙ ring₄ omegas omegas-laws (λ p t f g. (p ⊗ t) ⊗ (f ⊗ g)) (λ p t f g. t ⊗ (f ⊗ (p ⊗ g))) tt p two f (doubled u v)

@@ -37,7 +37,7 @@ pub fn over(k: u32, u: i64, v: i64) -> f64
     requires { ⌜ Fit (surd k u v) ⌝ }
     ensures { λ r. ⌜ Shows (surd k u v) r ⌝ }
 {
-    let s = k / 2 + 1;
+    let s = (k + 2) / 2;
     if k % 2 == 0 {
         near(u + u, v, s)
     } else {

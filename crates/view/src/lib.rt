@@ -1,10 +1,9 @@
 // Job 7, the numeric view: the four entries of a checked triple as eight f64. It stands for `to_complex_matrix`.
-ghost use Rattle.exact.specs.Meaning.Triple.{Unitary};
 ghost use Rattle.view.specs.Meaning.Outcome.{quad, Checked, Outcome};
 use matrix::{View, entries, nils};
 pub mod matrix;
 mod float;
-pub mod number;
+mod number;
 
 pub struct Answer {
     pub refusal: u8,

@@ -33,14 +33,19 @@ pub fn nils() -> View
     }
 }
 
-pub fn shown(k: u32, n: u8, z: Number, w: Number) -> View
+fn shown(k: u32, n: u8, z: Number, w: Number) -> View
     requires { ⌜ (k ≤ 60) × Unitary (record { k = k; n = n; z = ring z; w = ring w }) ⌝ }
     ensures { λ r. ⌜ Viewed (record { k = k; n = n; z = ring z; w = ring w }) r ⌝ }
 {
+    let zc = z.conj();
+    let zu = zc.mul_by_omega_power(n);
+    let wc = w.conj();
+    let wu = wc.mul_by_omega_power(n);
+    let wm = wu.neg();
     let p = z.parts(k);
-    let q = w.conj().mul_by_omega_power(n).neg().parts(k);
+    let q = wm.parts(k);
     let r = w.parts(k);
-    let s = z.conj().mul_by_omega_power(n).parts(k);
+    let s = zu.parts(k);
     View {
         re00: p.re,
         im00: p.im,

@@ -17,7 +17,7 @@ even k = eqb (k % 2) 0
 
 -- u + v over root two, over root two to the k
 abbrev pub over : ℕ → ℤ → ℤ → Surd
-over k u v = record { A = cond (even k) (u +ℤ u) v; B = cond (even k) v u; s = k / 2 + 1 }
+over k u v = record { A = cond (even k) (u +ℤ u) v; B = cond (even k) v u; s = (k + 2) / 2 }
 
 abbrev pub real : ℕ → Ω → Surd
 real k x = over k (x .d) (x .c -ℤ x .a)

@@ -1,10 +1,9 @@
 -- `Number::mul_by_omega_power` meets its contract. The invariant: after i turns x is the number times omega to the i. Assumes nothing.
-use mathlib.Core.Path.{_≡_, sym, _∙_, ap, subst}
+use mathlib.Core.Path.{_≡_}
 use Prim.Native.Nat.{_≤_, _-_, _^_}
 use native.Mathlib.Omega.{arith}
 use Rattle.exact.specs.Meaning.Number.{ints, mulQ, omega^}
-use Rattle.exact.specs.Algebra.Omega.{omegas-laws}
-use Rattle.view.specs.Size.{ring, size, size-power}
+use Rattle.view.specs.Size.{ring, small-power}
 use Rattle.view.proofs.Numbers.{start, one-more, all-turns}
 use Rattle.view.proofs.number.Number.mul_by_omega_power.Statement.{statement}
 use Rattle.view.proofs.number.Number.mul_by_omega_power.Tie as tie
@@ -22,7 +21,7 @@ mul-by-omega-requires : tie.Need-mul-by-omega-requires Inv-loop μ-loop
 mul-by-omega-requires c κs =
     let l = c .before .loop in
     let d = c .before .before in
-    subst (λ n. n ≤ 2 ^ 60) (sym (ap size (l .inv .1) ∙ size-power (ring (d .args .self)) (l .i))) (d .pre)
+    small-power (ring (d .args .self)) (ring (l .x)) (2 ^ 60) (d .pre) (l .i) (l .inv .1)
 
 add-i : tie.Need-add-i Inv-loop μ-loop
 add-i c = omega arith
