@@ -159,4 +159,3 @@ unscale-least g s t n x h o q Q k =
 pub cancel-one : (h w o q : ℕ) → 0 < q → h * q * 2 ≤ w * q * 2 + o * q → h * 2 ≤ w * 2 + o
 cancel-one h w o q Q k =
     le-of-mul-le-mul-right (le-trans (le-of-eq (mul-right-comm h 2 q)) (le-trans k (le-of-eq (sym (add-mul (w * 2) o q ∙ ap (λ (z : ℕ). z + o * q) (mul-right-comm w 2 q)))))) Q
-

@@ -137,4 +137,3 @@ reach s c h k = omega arith
 
 pub self : (n c : ℕ) → 0 < c → n ≤ n * c
 self n c h = le-trans (le-of-eq (sym (mul-one n))) (mul-le-mul-left n h)
-

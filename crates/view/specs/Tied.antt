@@ -60,6 +60,7 @@ lifted : (u v : ℤ) → mulQ ints (root2 ints) (surd (record { A = v; B = u; s 
 lifted u v =
     solveQ ints ints-laws (u ∷ v ∷ []) (mulQ exprs (root2 exprs) (addQ exprs (scalar (var 1)) (mulQ exprs (scalar (var 0)) (root2 exprs))))
     (twice (var 0) (var 1)) (tt, tt, tt, tt)
+
 tied : (k : ℕ) (u v : ℤ) (y f : Ω) → y ≡ mulQ ints f (doubled u v) → Is k y f (over k u v)
 tied k u v y f h = record { same = go (even k) (eqb→eq (k % 2) 0) (λ t e. absurd (subst (λ n. T (not (eqb n 0))) e t)) }
   where

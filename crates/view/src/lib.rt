@@ -1,8 +1,11 @@
 // Job 7, the numeric view: the four entries of a checked triple as eight f64. It stands for `to_complex_matrix`.
 ghost use Rattle.view.specs.Meaning.Outcome.{quad, Checked, Outcome};
-use matrix::{View, entries, nils};
-pub mod matrix;
+use matrix::View;
+use matrix::entries;
+use matrix::nils;
+
 mod float;
+pub mod matrix;
 mod number;
 
 pub struct Answer {
@@ -28,7 +31,10 @@ pub fn answered(
     ensures { λ r. ⌜ Outcome k n (quad za zb zc zd) (quad wa wb wc wd) r ⌝ }
 {
     if refusal != exact::ACCEPTED {
-        return Answer { refusal: refusal, view: nils() };
+        return Answer {
+            refusal: refusal,
+            view: nils(),
+        };
     }
     Answer {
         refusal: refusal,

@@ -26,8 +26,7 @@ entries-requires c κs =
     let f = d .fits in
     let z = quad-held (a .za) (a .zb) (a .zc) (a .zd) (f .za) (f .zb) (f .zc) (f .zd) in
     let w = quad-held (a .wa) (a .wb) (a .wc) (a .wd) (f .wa) (f .wb) (f .wc) (f .wd) in
-    let h = accepted-only (d .pre) (c .if1 .left) in
-    (
+    let h = accepted-only (d .pre) (c .if1 .left) in (
       exponent-held (a .k) (f .k) (h .0),
       subst Unitary (sym (triple-held (a .k) (a .n) _ _ _ _ (f .k) z w)) (h .1),
     )

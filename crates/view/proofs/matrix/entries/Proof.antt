@@ -18,8 +18,7 @@ shown-requires c κs =
     let a = c .args in
     let f = c .fits in
     let z = quad-held (a .za) (a .zb) (a .zc) (a .zd) (f .za) (f .zb) (f .zc) (f .zd) in
-    let w = quad-held (a .wa) (a .wb) (a .wc) (a .wd) (f .wa) (f .wb) (f .wc) (f .wd) in
-    (
+    let w = quad-held (a .wa) (a .wb) (a .wc) (a .wd) (f .wa) (f .wb) (f .wc) (f .wd) in (
       exponent-few (held (a .k)) (exponent-held (a .k) (f .k) (c .pre .0)),
       subst Unitary (sym (triple-held (a .k) (a .n) _ _ _ _ (f .k) z w)) (c .pre .1),
     )

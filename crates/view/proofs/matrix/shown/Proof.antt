@@ -44,12 +44,11 @@ parts-requires-2 c κs =
     let d = b .before .before .before .before .before in
     let m = 2 ^ d .args .k in
     let y = ring (b .before .before .conj2 .result) in
-    let u = ring (b .before .mul-by-omega-power2 .result) in
-    (
+    let u = ring (b .before .mul-by-omega-power2 .result) in (
       d .pre .0,
       small-neg u (ring (b .neg .result)) m
-      (small-power y u m (small-conj (ring (d .args .w)) y m (w-size (d .pre .1)) (b .before .before .conj2 .ensures)) (d .args .n) (b .before .mul-by-omega-power2 .ensures))
-      (b .neg .ensures),
+          (small-power y u m (small-conj (ring (d .args .w)) y m (w-size (d .pre .1)) (b .before .before .conj2 .ensures)) (d .args .n) (b .before .mul-by-omega-power2 .ensures))
+          (b .neg .ensures),
     )
 
 parts-requires-3 : tie.Need-parts-requires-3
@@ -62,8 +61,7 @@ parts-requires-4 c κs =
     let b = c .before .before .before .before .before .before in
     let d = b .before .before in
     let m = 2 ^ d .args .k in
-    let y = ring (b .before .conj .result) in
-    (
+    let y = ring (b .before .conj .result) in (
       d .pre .0,
       small-power y (ring (b .mul-by-omega-power .result)) m (small-conj (ring (d .args .z)) y m (z-size (d .pre .1)) (b .before .conj .ensures)) (d .args .n) (b .mul-by-omega-power .ensures),
     )
