@@ -27,7 +27,7 @@ no-nan (inf t) s a c h = tt
 no-nan (fin t m e) s a c h = tt
 
 shown : {q : Surd} {r : Float} → Shows q r → T (not (isNan r))
-shown {q} {r} h = no-nan r (h .near .neg) (h .near .num) _ (h .near .value)
+shown {q} {r} h = no-nan r _ _ _ (h .near .value)
 
 pub finite : {t : Triple} {v : View} → Viewed t v → Finite v
 finite h = record {

@@ -1,17 +1,12 @@
 -- An integer of magnitude up to 2 ^ 53 as an f64. Assumes nothing.
-use mathlib.Core.Path.{_≡_, refl, sym, ap, _∙_, subst}
-use Prim.Native.Nat.{ℕ, suc, _^_, _≤_}
-use native.Mathlib.Nat.{le-trans}
+use Prim.Native.Nat.{ℕ, suc, _^_, _≤_, _<_}
+use native.Mathlib.Nat.{zero-lt-suc}
 use lib.IntN.{ℤ, pos, negsuc, natAbs}
-use lib.Dec.{T, le→leb, lt→ltb, lit≤}
+use lib.Dec.{T, le→leb, lt→ltb}
 use lib.Ieee.{binary64, ofInt, inFloat}
 use lib.Ieee.Exact.{HasValue}
 use lib.Ieee.Back.{round-whole}
-use mathlib.Core.Bool.{Bool, true, false}
-
-abbrev pub isNeg : ℤ → Bool
-isNeg (pos n) = false
-isNeg (negsuc n) = true
+use Rattle.view.specs.Meaning.Near.{isNeg}
 
 pub in-float : (z : ℤ) → natAbs z ≤ 2 ^ 53 → T (inFloat binary64 z)
 unfolding inFloat
@@ -22,3 +17,7 @@ pub cast-value : (z : ℤ) → natAbs z ≤ 2 ^ 53 → HasValue (ofInt binary64 
 unfolding ofInt
 cast-value (pos n) h = round-whole binary64 _ n h
 cast-value (negsuc n) h = round-whole binary64 _ (suc n) h
+
+pub neg-positive : (z : ℤ) → T (isNeg z) → 0 < natAbs z
+neg-positive (pos n) t = absurd t
+neg-positive (negsuc n) t = zero-lt-suc n

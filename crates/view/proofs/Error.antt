@@ -8,7 +8,7 @@ use native.Mathlib.Omega.{arith}
 use lib.IntN.{ℤ, pos, negsuc, natAbs}
 use lib.Dec.{lit≤, lit<}
 use Rattle.exact.specs.Whole.Linear.{up, down}
-use Rattle.view.proofs.Casting.{isNeg}
+use Rattle.view.specs.Meaning.Near.{isNeg}
 
 -- p - p' ≤ (q - q') * √2, where the subtraction of ℕ stops at 0
 pub record Below (p p' q q' : ℕ) : Type 0 where

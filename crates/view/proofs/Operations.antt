@@ -1,7 +1,7 @@
 -- A product and a sum of floats by the fractions that they equal, and how far a sum is moved. Assumes nothing.
 use mathlib.Core.Path.{_≡_, refl, sym, ap, _∙_, subst}
 use Prim.Native.Nat.{ℕ, suc, _+_, _-_, _*_, _^_, _≤_, _<_}
-use native.Mathlib.Nat.{le-trans, le-of-eq, le-of-lt, add-mul, mul-comm, mul-sub, mul-assoc, mul-right-comm, mul-left-comm, mul-pos, mul-mul-mul-comm, lt-of-le-of-lt, le-of-mul-le-mul-right, mul-le-mul-right}
+use native.Mathlib.Nat.{le-trans, le-of-eq, le-of-lt, add-mul, mul-comm, mul-sub, mul-assoc, mul-right-comm, mul-left-comm, mul-pos, mul-mul-mul-comm, lt-of-le-of-lt, le-of-mul-le-mul-right, mul-le-mul-right, lt-of-mul-lt-mul-right, mul-lt-mul-of-pos-right}
 use native.Mathlib.Omega.{arith}
 use mathlib.Core.Bool.{Bool, true, false, not, _&&_, Bool·beq, cond}
 use lib.IntN.{ℤ}
@@ -40,6 +40,8 @@ pub record Summed (f : Format) (x : Float) (s : Bool) (a : ℕ) (t : Bool) (b h 
   pub kept-le : kept ≤ 2 ^ prec f
   pub digits : num ≡ kept * 2 ^ drop
   pub multiple : (m n i : ℕ) → a ≡ m * 2 ^ i → b ≡ n * 2 ^ i → (l : ℕ) × (num ≡ l * 2 ^ i)
+  -- it is no -0
+  pub below-zero : T neg → 0 < num
 
 spread : (x y z : ℕ) → (x - y) * z ≡ x * z - y * z
 spread x y z = mul-comm (x - y) z ∙ mul-sub z x y ∙ ap (λ (w : ℕ). w - z * y) (mul-comm z x) ∙ ap (λ (w : ℕ). x * z - w) (mul-comm z y)
@@ -67,6 +69,9 @@ take-off f s a' b' c a b k C p q small room =
 order : (f : Format) (a' b' c a b : ℕ) → 0 < c → Same f a' c a → Same f b' c b → a' ≤ b' → a ≤ b
 order f a' b' c a b C p q h = le-of-mul-le-mul-right (le-trans (le-of-eq (sym p)) (le-trans (mul-le-mul-right (2 ^ low f) h) (le-of-eq q))) C
 
+order-lt : (f : Format) (a' b' c a b : ℕ) → Same f a' c a → Same f b' c b → a' < b' → a < b
+order-lt f a' b' c a b p q h = lt-of-mul-lt-mul-right c (subst (λ (z : ℕ). z < b * c) p (subst (λ (z : ℕ). a' * 2 ^ low f < z) q (mul-lt-mul-of-pos-right h (pow-pos (low f)))))
+
 -- sums and differences of multiples of c
 sums : (a b m n c : ℕ) → a ≡ m * c → b ≡ n * c → a + b ≡ (m + n) * c
 sums a b m n c e g = ap (λ (z : ℕ). z + b) e ∙ ap (λ (z : ℕ). m * c + z) g ∙ sym (add-mul m n c)
@@ -76,8 +81,8 @@ less a b m n c e g = ap (λ (z : ℕ). z - b) e ∙ ap (λ (z : ℕ). m * c - z)
 
 -- a rounded ±w that is ±a ± b before it is rounded
 summed : (f : Format) (x : Float) (g s t : Bool) (w a b h : ℕ) → cond g 0 w + cond s a 0 + cond t b 0 ≡ cond g w 0 + cond s 0 a + cond t 0 b → w ≤ a + b
-    → ((m n i : ℕ) → a ≡ m * 2 ^ i → b ≡ n * 2 ^ i → (l : ℕ) × (w ≡ l * 2 ^ i)) → Rounded f x g w h → Summed f x s a t b h
-summed f x g s t w a b h e l k r = record {
+    → ((m n i : ℕ) → a ≡ m * 2 ^ i → b ≡ n * 2 ^ i → (l : ℕ) × (w ≡ l * 2 ^ i)) → (T g → 0 < w) → Rounded f x g w h → Summed f x s a t b h
+summed f x g s t w a b h e l k p r = record {
   neg = g;
   num = r .num;
   value = r .value;
@@ -89,6 +94,7 @@ summed f x g s t w a b h e l k r = record {
   kept-le = r .kept-le;
   digits = r .digits;
   multiple = λ m n i p q. r .multiple (k m n i p q .0) i (k m n i p q .1);
+  below-zero = λ t. r .positive (p t);
 }
   where
     upper : (g : Bool) → cond g 0 w + cond s a 0 + cond t b 0 ≡ cond g w 0 + cond s 0 a + cond t 0 b → (cond g 0 (r .num) + cond s a 0 + cond t b 0) * 2 ≤ (cond g (r .num) 0 + cond s 0 a + cond t 0 b) * 2 + h
@@ -99,46 +105,57 @@ summed f x g s t w a b h e l k r = record {
     lower true e = omega (arith, r .most)
     lower false e = omega (arith, r .least)
 
-pub sum-near : (f : Format) (s t : Bool) (a' b' c a b k : ℕ) → 0 < c → Same f a' c a → Same f b' c b → a + b < 2 ^ (prec f + k) → suc (prec f + k) ≤ low f + suc (emax f)
+-- a summand with a minus is no -0
+abbrev Whole : Bool → ℕ → Type 0
+Whole s a = T s → 0 < a
+
+pub sum-near : (f : Format) (s t : Bool) (a' b' c a b k : ℕ) → Whole s a → Whole t b → 0 < c → Same f a' c a → Same f b' c b → a + b < 2 ^ (prec f + k) → suc (prec f + k) ≤ low f + suc (emax f)
     → Summed f (sum f s a' t b' c) s a t b (2 ^ k)
 unfolding sum
-sum-near f false false a' b' c a b k C p q small room =
-    summed f (round f false (a' + b') c) false false false (a + b) a b (2 ^ k) (omega arith) (omega arith) (λ m n i e g. (m + n, sums a b m n (2 ^ i) e g)) (both f false a' b' c a b k C p q small room)
-sum-near f true true a' b' c a b k C p q small room =
-    summed f (round f true (a' + b') c) true true true (a + b) a b (2 ^ k) (omega arith) (omega arith) (λ m n i e g. (m + n, sums a b m n (2 ^ i) e g)) (both f true a' b' c a b k C p q small room)
-sum-near f false true a' b' c a b k C p q small room = go (ltb a' b') (ltb→lt a' b') (nltb→le a' b')
+sum-near f false false a' b' c a b k x y C p q small room =
+    summed f (round f false (a' + b') c) false false false (a + b) a b (2 ^ k) (omega arith) (omega arith) (λ m n i e g. (m + n, sums a b m n (2 ^ i) e g)) (λ u. absurd u) (both f false a' b' c a b k C p q small room)
+sum-near f true true a' b' c a b k x y C p q small room =
+    let A : 0 < a = x tt in
+    summed f (round f true (a' + b') c) true true true (a + b) a b (2 ^ k) (omega arith) (omega arith) (λ m n i e g. (m + n, sums a b m n (2 ^ i) e g)) (λ u. omega arith) (both f true a' b' c a b k C p q small room)
+sum-near f false true a' b' c a b k x y C p q small room = go (ltb a' b') (ltb→lt a' b') (nltb→le a' b')
   where
     go : (u : Bool) → (T u → a' < b') → (T (not u) → b' ≤ a') → Summed f (cond u (round f true (b' - a') c) (round f false (a' - b') c)) false a true b (2 ^ k)
     go true l g =
-        let o : a ≤ b = order f a' b' c a b C p q (le-of-lt (l tt)) in
-        summed f (round f true (b' - a') c) true false true (b - a) a b (2 ^ k) (omega arith) (omega arith) (λ m n i e h. (n - m, less b a n m (2 ^ i) h e)) (take-off f true b' a' c b a k C q p (turn a b (2 ^ (prec f + k)) small) room)
+        let o : a < b = order-lt f a' b' c a b p q (l tt) in
+        summed f (round f true (b' - a') c) true false true (b - a) a b (2 ^ k) (omega arith) (omega arith) (λ m n i e h. (n - m, less b a n m (2 ^ i) h e)) (λ u. omega arith)
+        (take-off f true b' a' c b a k C q p (turn a b (2 ^ (prec f + k)) small) room)
     go false l g =
         let o : b ≤ a = order f b' a' c b a C q p (g tt) in
-        summed f (round f false (a' - b') c) false false true (a - b) a b (2 ^ k) (omega arith) (omega arith) (λ m n i e h. (m - n, less a b m n (2 ^ i) e h)) (take-off f false a' b' c a b k C p q small room)
-sum-near f true false a' b' c a b k C p q small room = go (ltb a' b') (ltb→lt a' b') (nltb→le a' b')
+        summed f (round f false (a' - b') c) false false true (a - b) a b (2 ^ k) (omega arith) (omega arith) (λ m n i e h. (m - n, less a b m n (2 ^ i) e h)) (λ u. absurd u)
+        (take-off f false a' b' c a b k C p q small room)
+sum-near f true false a' b' c a b k x y C p q small room = go (ltb a' b') (ltb→lt a' b') (nltb→le a' b')
   where
     -- where a' is b', the sum is +0
-    rest : (v : Bool) → b ≤ a → (T (not v) → a' ≤ b') → Summed f (round f v (a' - b') c) true a false b (2 ^ k)
-    rest true o l =
-        summed f (round f true (a' - b') c) true true false (a - b) a b (2 ^ k) (omega arith) (omega arith) (λ m n i e h. (m - n, less a b m n (2 ^ i) e h)) (take-off f true a' b' c a b k C p q small room)
-    rest false o l =
-        let e : a ≤ b = order f a' b' c a b C p q (l tt) in
-        summed f (round f false (a' - b') c) false true false (a - b) a b (2 ^ k) (omega arith) (omega arith) (λ m n i e h. (m - n, less a b m n (2 ^ i) e h)) (take-off f false a' b' c a b k C p q small room)
+    rest : (v : Bool) → b ≤ a → (T v → b' < a') → (T (not v) → a' ≤ b') → Summed f (round f v (a' - b') c) true a false b (2 ^ k)
+    rest true o j l =
+        let d : b < a = order-lt f b' a' c b a q p (j tt) in
+        summed f (round f true (a' - b') c) true true false (a - b) a b (2 ^ k) (omega arith) (omega arith) (λ m n i e h. (m - n, less a b m n (2 ^ i) e h)) (λ u. omega arith)
+        (take-off f true a' b' c a b k C p q small room)
+    rest false o j l =
+        let d : a ≤ b = order f a' b' c a b C p q (l tt) in
+        summed f (round f false (a' - b') c) false true false (a - b) a b (2 ^ k) (omega arith) (omega arith) (λ m n i e h. (m - n, less a b m n (2 ^ i) e h)) (λ u. absurd u)
+        (take-off f false a' b' c a b k C p q small room)
 
     go : (u : Bool) → (T u → a' < b') → (T (not u) → b' ≤ a') → Summed f (cond u (round f false (b' - a') c) (round f (ltb b' a') (a' - b') c)) true a false b (2 ^ k)
     go true l g =
         let o : a ≤ b = order f a' b' c a b C p q (le-of-lt (l tt)) in
-        summed f (round f false (b' - a') c) false true false (b - a) a b (2 ^ k) (omega arith) (omega arith) (λ m n i e h. (n - m, less b a n m (2 ^ i) h e)) (take-off f false b' a' c b a k C q p (turn a b (2 ^ (prec f + k)) small) room)
-    go false l g = rest (ltb b' a') (order f b' a' c b a C q p (g tt)) (nltb→le b' a')
+        summed f (round f false (b' - a') c) false true false (b - a) a b (2 ^ k) (omega arith) (omega arith) (λ m n i e h. (n - m, less b a n m (2 ^ i) h e)) (λ u. absurd u)
+        (take-off f false b' a' c b a k C q p (turn a b (2 ^ (prec f + k)) small) room)
+    go false l g = rest (ltb b' a') (order f b' a' c b a C q p (g tt)) (ltb→lt b' a') (nltb→le b' a')
 
-pub add-near : (f : Format) (x y : Float) (s t : Bool) (a b k : ℕ) → HasValue x s a (2 ^ low f) → HasValue y t b (2 ^ low f) → a + b < 2 ^ (prec f + k) → suc (prec f + k) ≤ low f + suc (emax f)
+pub add-near : (f : Format) (x y : Float) (s t : Bool) (a b k : ℕ) → Whole s a → Whole t b → HasValue x s a (2 ^ low f) → HasValue y t b (2 ^ low f) → a + b < 2 ^ (prec f + k) → suc (prec f + k) ≤ low f + suc (emax f)
     → Summed f (add f x y) s a t b (2 ^ k)
 unfolding add
-add-near f nan y s t a b k h g small room = absurd h
-add-near f (inf u) y s t a b k h g small room = absurd h
-add-near f (fin u m e) nan s t a b k h g small room = absurd g
-add-near f (fin u m e) (inf v) s t a b k h g small room = absurd g
-add-near f (fin u m e) (fin v n d) s t a b k h g small room =
+add-near f nan y s t a b k A B h g small room = absurd h
+add-near f (inf u) y s t a b k A B h g small room = absurd h
+add-near f (fin u m e) nan s t a b k A B h g small room = absurd g
+add-near f (fin u m e) (inf v) s t a b k A B h g small room = absurd g
+add-near f (fin u m e) (fin v n d) s t a b k A B h g small room =
     let a' = m * up e * down d in
     let b' = n * up d * down e in
     let c = down e * down d in
@@ -146,4 +163,4 @@ add-near f (fin u m e) (fin v n d) s t a b k h g small room =
     let q : Same f b' c b = mul-right-comm (n * up d) (down e) (2 ^ low f) ∙ ap (λ (z : ℕ). z * down e) (g .1) ∙ mul-assoc b (down d) (down e) ∙ ap (λ (z : ℕ). b * z) (mul-comm (down d) (down e)) in
     subst (λ (z : Bool). Summed f (sum f z a' v b' c) s a t b (2 ^ k)) (sym (h .0))
     (subst (λ (z : Bool). Summed f (sum f s a' z b' c) s a t b (2 ^ k)) (sym (g .0))
-    (sum-near f s t a' b' c a b k (mul-pos (down-pos e) (down-pos d)) p q small room))
+    (sum-near f s t a' b' c a b k A B (mul-pos (down-pos e) (down-pos d)) p q small room))

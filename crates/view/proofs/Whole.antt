@@ -1,18 +1,19 @@
 -- The float that the code computes, in units: a rounded product, a rounded sum, an exact scaling; and how near it is. Assumes nothing.
 use mathlib.Core.Path.{_≡_, refl, sym, ap, _∙_, subst}
 use mathlib.Core.Bool.{Bool, true, false, cond}
-use Prim.Native.Nat.{ℕ, suc, _+_, _-_, _*_, _^_, _≤_, _<_}
-use native.Mathlib.Nat.{le-trans, le-of-eq, lt-of-le-of-lt, mul-one, add-mul, mul-assoc, mul-comm}
+use Prim.Native.Nat.{ℕ, zero, suc, _+_, _-_, _*_, _^_, _≤_, _<_}
+use native.Mathlib.Nat.{le-trans, le-of-eq, lt-of-le-of-lt, mul-one, add-mul, mul-assoc, mul-comm, mul-pos, not-suc-le-zero}
 use native.Mathlib.Omega.{arith}
 use lib.IntN.{ℤ, pos, negsuc, negℤ, natAbs, _-ℤ_, _*ℤ_}
-use lib.Dec.{lit≤, lit<}
+use lib.Dec.{T, lit≤, lit<}
 use lib.Pow.{pow-add, pow-pos, pow-mono}
 use lib.Ieee.{Float, binary64, round, add, mul, ofInt}
 use lib.Ieee.Exact.{HasValue}
+use lib.Ieee.Positive.{first-pos}
 use Rattle.exact.specs.Whole.Linear.{up, down, difference, negation}
 use Rattle.view.specs.Meaning.Surd.{Surd}
-use Rattle.view.specs.Meaning.Near.{rootTwo, half^, rounded, signed, tolerance, AtMost, Near, Shows}
-use Rattle.view.proofs.Casting.{isNeg, cast-value}
+use Rattle.view.specs.Meaning.Near.{rootTwo, half^, rounded, isNeg, tolerance, AtMost, Near, Shows}
+use Rattle.view.proofs.Casting.{cast-value, neg-positive}
 use Rattle.view.proofs.Powers.{half-value}
 use Rattle.view.proofs.Rounding.{Rounded, round-near, under}
 use Rattle.view.proofs.Operations.{mul-of, Summed, add-near}
@@ -37,6 +38,16 @@ at-most-of x y p p' q q' e f b =
 -- x - y - d, by their parts
 less-parts : (x y : ℤ) (d u u' v v' : ℕ) → up x ≡ u → down x ≡ u' → up y ≡ v → down y ≡ v' → up (x -ℤ y -ℤ pos d) + (u' + v + d) ≡ u + v' + down (x -ℤ y -ℤ pos d)
 less-parts x y d u u' v v' a b c e = omega (arith, difference x y, difference (x -ℤ y) (pos d))
+
+-- a sign and a size, where no 0 has a minus
+abbrev signed : Bool → ℕ → ℤ
+signed true n = negℤ (pos n)
+signed false n = pos n
+
+signed-is : (g : Bool) (n : ℕ) → (T g → 0 < n) → (isNeg (signed g n) ≡ g) × (natAbs (signed g n) ≡ n)
+signed-is true zero h = absurd (not-suc-le-zero (h tt))
+signed-is true (suc n) h = (refl, refl)
+signed-is false n h = (refl, refl)
 
 up-signed : (g : Bool) (n : ℕ) → (up (signed g n) ≡ cond g 0 n) × (down (signed g n) ≡ cond g n 0)
 up-signed true n = negation (pos n)
@@ -82,7 +93,9 @@ near-of x y p a b s S A B hx hy hp =
     let xv : HasValue x (isNeg a) (natAbs a * v * q) (2 ^ 1074) = rescale x (isNeg a) (natAbs a) 1 (natAbs a * v * q) (2 ^ 1074) (lit< tt) (wide (natAbs a) v q (2 ^ 1074) (whole-power 1074 s (room s 1074 S (lit≤ tt)))) hx in
     let small : natAbs a * v + h < 2 ^ 1076 = sum-small (natAbs a * v) h w (2 ^ 1021) (pow-pos 1021) ax over (exact-small (natAbs b) s S B) in
     let smallq : natAbs a * v * q + h * q < 2 ^ (53 + (s + 1023)) = subst (λ (z : ℕ). z < 2 ^ (53 + (s + 1023))) (add-mul (natAbs a * v) h q) (shift-lt (natAbs a * v + h) s 1076 53 1023 refl small) in
-    let r = add-near binary64 x m (isNeg a) (isNeg b) (natAbs a * v * q) (h * q) (s + 1023) xv hv smallq (reach s 1023 S (lit≤ tt)) in
+    let aw : T (isNeg a) → 0 < natAbs a * v * q = λ t. mul-pos (mul-pos (neg-positive a t) (pow-pos (1074 - s))) Q in
+    let bw : T (isNeg b) → 0 < h * q = λ t. subst (λ (z : ℕ). 0 < z) (hm .1) (pr .positive (mul-pos (mul-pos (mul-pos (neg-positive b t) (lit< tt)) (pow-pos (1022 - s))) Q)) in
+    let r = add-near binary64 x m (isNeg a) (isNeg b) (natAbs a * v * q) (h * q) (s + 1023) aw bw xv hv smallq (reach s 1023 S (lit≤ tt)) in
     let nm = r .multiple (natAbs a * v) h s refl refl in
     let n = nm .0 in
     let g = r .neg in
@@ -104,14 +117,14 @@ near-of x y p a b s S A B hx hy hp =
     (subst (λ (z : ℕ). Facts gp gm (cond (isNeg a) 0 (natAbs a * v)) z b h (2 ^ 1021)) (down-is a v) (most, least)) in
     let j = join gp gm a b v w h (2 ^ 1021) (exact-is (natAbs b) s S) (halve h w (2 ^ 1021) over) (halve w h (2 ^ 1021) dn) f bx in
     let gs = up-signed g n in
+    let sg = signed-is g n (λ t. first-pos n q (subst (λ (z : ℕ). 0 < z) (nm .1) (r .below-zero t))) in
     let az = up-times a v in
     let bs = up-times b v in
     let bn = negation (b *ℤ pos v) in
     let loose : 4 * 2 ^ 1021 ≤ tolerance = lit≤ tt in
     record {
-      neg = g;
-      num = n;
-      value = value;
+      r-units = signed g n;
+      value = rw (sg .0, sg .1) value;
       most =
           at-most-of (signed g n -ℤ a *ℤ pos v -ℤ pos tolerance) (b *ℤ pos v) (gp + down a * v) (gm + up a * v + tolerance) (up b * v) (down b * v)
           (less-parts (signed g n) (a *ℤ pos v) tolerance gp gm (up a * v) (down a * v) (gs .0) (gs .1) (az .0) (az .1))

@@ -2,7 +2,7 @@
 use mathlib.Core.Path.{_≡_}
 use mathlib.Core.Bool.{Bool, true, false}
 use Prim.Native.Nat.{ℕ, _-_, _*_, _^_, _≤_}
-use lib.IntN.{ℤ, pos, negℤ, _-ℤ_, _*ℤ_}
+use lib.IntN.{ℤ, pos, negsuc, negℤ, natAbs, _-ℤ_, _*ℤ_}
 use lib.Ieee.{Float, binary64, round, add, mul, ofInt, ofBits}
 use lib.Ieee.Exact.{HasValue}
 use Rattle.exact.specs.Whole.Linear.{up, down}
@@ -20,21 +20,20 @@ smallest = 1074
 abbrev pub units : ℕ → ℤ → ℤ
 units s a = a *ℤ pos (2 ^ (smallest - s))
 
-abbrev pub signed : Bool → ℕ → ℤ
-signed true n = negℤ (pos n)
-signed false n = pos n
+abbrev pub isNeg : ℤ → Bool
+isNeg (pos n) = false
+isNeg (negsuc n) = true
 
 -- 2 to the -50, in units
 abbrev pub tolerance : ℕ
 tolerance = 2 ^ (smallest - 50)
 
--- r is finite, and neither r - (A + B·root two) / 2^s nor its negative is over 2 to the -50
+-- r is finite and no -0, and neither r - (A + B·root two) / 2^s nor its negative is over 2 to the -50
 pub record Near (q : Surd) (r : Float) : Type 0 where
-  pub neg : Bool
-  pub num : ℕ
-  pub value : HasValue r neg num (2 ^ smallest)
-  pub most : AtMost (signed neg num -ℤ units (q .s) (q .A) -ℤ pos tolerance) (units (q .s) (q .B))
-  pub least : AtMost (units (q .s) (q .A) -ℤ signed neg num -ℤ pos tolerance) (negℤ (units (q .s) (q .B)))
+  pub r-units : ℤ
+  pub value : HasValue r (isNeg r-units) (natAbs r-units) (2 ^ smallest)
+  pub most : AtMost (r-units -ℤ units (q .s) (q .A) -ℤ pos tolerance) (units (q .s) (q .B))
+  pub least : AtMost (units (q .s) (q .A) -ℤ r-units -ℤ pos tolerance) (negℤ (units (q .s) (q .B)))
 
 -- ---- which float
 -- the f64 nearest to root two
