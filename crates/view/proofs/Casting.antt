@@ -1,5 +1,5 @@
 -- An integer of magnitude up to 2 ^ 53 as an f64. Assumes nothing.
-use Prim.Native.Nat.{ℕ, suc, _^_, _≤_, _<_}
+use Prim.Native.Nat.{suc, _^_, _≤_, _<_}
 use native.Mathlib.Nat.{zero-lt-suc}
 use lib.IntN.{ℤ, pos, negsuc, natAbs}
 use lib.Dec.{T, le→leb, lt→ltb}

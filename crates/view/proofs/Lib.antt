@@ -7,3 +7,4 @@ mod Error
 mod Whole
 mod Numbers
 mod Branches
+mod Zero

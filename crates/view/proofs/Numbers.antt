@@ -1,22 +1,21 @@
 -- Small machine integers: read back from their bits they are themselves, and their negatives, sums and differences are exact. And what a
 -- multiplication by omega does to the coefficients. Assumes nothing.
-use mathlib.Core.Path.{_≡_, refl, sym, _∙_, ap, ap₂, subst}
-use mathlib.Core.List.{List, [], _∷_}
-use Prim.Native.Nat.{ℕ, suc, _+_, _*_, _%_, _^_, _≤_, _<_}
-use native.Mathlib.Nat.{le-trans}
+use mathlib.Core.Path.{_≡_, sym, _∙_, ap, subst}
+use mathlib.Core.List.{[], _∷_}
+use Prim.Native.Nat.{ℕ, _+_, _%_, _^_, _≤_}
 use native.Mathlib.Numerals.{add-one}
 use native.Mathlib.Omega.{arith}
 use lib.Dec.{T, lit≤}
 use lib.IntN.{ℤ, pos, negsuc, negℤ, natAbs, _+ℤ_, _-ℤ_, +ℤ-idl}
 use lib.Signed.{nonNeg, yes-nonNeg}
 use mir.Syntax.{w32, w64}
-use mir.Val.{Fits, SFits, toZ, ofZ}
+use mir.Val.{Fits, SFits, ofZ}
 use Rattle.exact.specs.Whole.Linear.{≤ℤ→}
 use mir.ValLaws.{toZ-ofZ}
 use Rattle.exact.specs.Whole.Size.{Within}
 use Rattle.exact.specs.Whole.Machine as Machine
 use Rattle.exact.specs.Whole.Machine.{arg, _∔_, _∸_, need-by, result-by}
-use Rattle.exact.specs.Meaning.Number.{Quad, Ω, ints, omegas, mulQ, omega′, omega^}
+use Rattle.exact.specs.Meaning.Number.{Ω, ints, omegas, mulQ, omega′, omega^}
 use Rattle.exact.specs.Algebra.Ring.{ints-laws}
 use Rattle.exact.specs.Algebra.Solver.{exprs, ⊖, _⊗_, ring₃}
 use Rattle.exact.specs.Algebra.Omega.{omegas-laws, quad-path, X₀, parts, solveQ}

@@ -1,4 +1,4 @@
--- Values in units of 2 to the -1074: the root-two constant, powers of two, and the scaling by 2 to the -s, which is exact. Assumes nothing.
+-- Values in units of 2 to the -1074: powers of two, the product by the root-two constant, and the scaling by 2 to the -s, which is exact. Assumes nothing.
 use mathlib.Core.Path.{_≡_, refl, sym, ap, _∙_, subst}
 use mathlib.Core.Logic.{_⊎_, inl, inr}
 use mathlib.Core.Bool.{Bool, true, false, not}
@@ -7,19 +7,11 @@ use native.Mathlib.Nat.{le-trans, le-of-eq, lt-of-le-of-lt, eq-or-lt-of-le, mul-
 use native.Mathlib.Omega.{arith}
 use lib.Dec.{T, leb, leb→le, nleb→lt, lit≤, lit<}
 use lib.Pow.{pow-add, pow-pos, pow-lt, shl-lt}
-use lib.Ieee.{Float, nan, inf, fin, binary64, up, down, unlike, round, mul, ofBits}
+use lib.Ieee.{Float, nan, inf, fin, binary64, up, down, unlike, round, mul}
 use lib.Ieee.Exact.{HasValue, round-exact}
-use Rattle.view.specs.Meaning.Near.{rootTwo}
+use Rattle.view.specs.Root.{Rn}
 use Rattle.view.proofs.Rounding.{power-split}
 use Rattle.view.proofs.Operations.{mul-of}
-
--- the root-two constant is Rn over 2 to the 52
-abbrev pub Rn : ℕ
-Rn = 6369051672525773
-
-pub root-value : HasValue rootTwo false Rn (2 ^ 52)
-unfolding ofBits
-root-value = (refl, refl)
 
 pub rescale : (x : Float) (s : Bool) (a c b d : ℕ) → 0 < c → a * d ≡ b * c → HasValue x s a c → HasValue x s b d
 rescale nan s a c b d C h v = v

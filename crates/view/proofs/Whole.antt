@@ -13,11 +13,12 @@ use lib.Ieee.Positive.{first-pos}
 use Rattle.exact.specs.Whole.Linear.{up, down, difference, negation}
 use Rattle.view.specs.Meaning.Surd.{Surd}
 use Rattle.view.specs.Meaning.Near.{rootTwo, half^, rounded, isNeg, tolerance, AtMost, Near, Shows}
+use Rattle.view.specs.Root.{Rn, root-value}
 use Rattle.view.proofs.Casting.{cast-value, neg-positive}
 use Rattle.view.proofs.Powers.{half-value}
 use Rattle.view.proofs.Rounding.{Rounded, round-near, under}
-use Rattle.view.proofs.Operations.{mul-of, Summed, add-near}
-use Rattle.view.proofs.Units.{Rn, root-value, rescale, unlike-false, whole-power, at-most, room, exact, exact-is, exact-small, scale-exact, pow-up, shift-lt, reach, self}
+use Rattle.view.proofs.Operations.{mul-of, add-near}
+use Rattle.view.proofs.Units.{rescale, unlike-false, whole-power, at-most, room, exact, exact-is, exact-small, scale-exact, pow-up, shift-lt, reach, self}
 use Rattle.view.proofs.Error.{Below, loosen, sum-small, halve, Facts, join, up-is, down-is, Most, Least, unscale-most, unscale-least, cancel-one}
 
 -- ---- from natural parts to whole numbers

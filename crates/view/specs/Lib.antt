@@ -1,4 +1,5 @@
 pub mod Meaning
+pub mod Root
 pub mod Size
 pub mod Tied
 pub mod Unique

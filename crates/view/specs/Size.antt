@@ -2,17 +2,17 @@
 -- and of A and B by it, at most 2 to the s. In a unitary triple both numbers' sizes are at most 2 to the k. Assumes nothing.
 use mathlib.Core.Path.{_≡_, refl, sym, _∙_, ap, ap₂, subst}
 use mathlib.Core.Bool.{Bool, true, false, not, cond}
-use mathlib.Core.List.{List, [], _∷_}
+use mathlib.Core.List.{[]}
 use Prim.Native.Nat.{ℕ, zero, suc, _+_, _*_, _/_, _%_, _^_, _≤_, _<_}
 use native.Mathlib.Nat.{le-trans, le-of-suc-le-suc, lt-of-not-le, not-le-of-lt, le-of-lt, lt-of-le-of-lt, mul-le-mul-left, mul-lt-mul-of-pos-right}
 use native.Mathlib.Omega.{arith}
-use lib.Dec.{T, eqb, eqb→eq, lit≤}
+use lib.Dec.{T, eqb, eqb→eq}
 use lib.Pow.{pow-add, pow-mono}
 use lib.IntN.{ℤ, pos, negsuc, natAbs, _+ℤ_, _-ℤ_, _*ℤ_}
-use Rattle.exact.specs.Meaning.Number.{Quad, Ω, ints, omegas, mulQ, negQ, conjQ, omega′, omega^}
+use Rattle.exact.specs.Meaning.Number.{Ω, ints, mulQ, negQ, conjQ, omega′, omega^}
 use Rattle.exact.specs.Meaning.Triple.{Triple, squares, Unitary}
 use Rattle.exact.specs.Algebra.Ring.{ints-laws}
-use Rattle.exact.specs.Algebra.Solver.{Expr, con, _⊕_, _⊗_, _⊝_, exprs, solve, ring₁, ring₂, ring₃}
+use Rattle.exact.specs.Algebra.Solver.{con, _⊕_, _⊗_, _⊝_, exprs, solve, ring₁, ring₂}
 use Rattle.exact.specs.Algebra.Omega.{omegas-laws, X₀, X₁, parts}
 use Rattle.view.specs.Meaning.Surd.{Surd, even, over, real, imaginary}
 use Rattle.view.specs.Meaning.Outcome.{CoefficientsFit}

@@ -1,14 +1,14 @@
 -- The parts of an entry are those of document 01, shown in the ring itself: x and its conjugate x* sum to twice the real part of x, and their
 -- difference is twice i times its imaginary part, i being omega². So that of x over root two to the k is A + B·root two over 2 to the s
 -- means: 2^s·(x + x*) = 2·root two^k·(A + B·root two), and 2^s·(x - x*) = 2·i·root two^k·(A + B·root two). Assumes nothing.
-use mathlib.Core.Path.{_≡_, refl, sym, _∙_, ap, ap₂, subst}
+use mathlib.Core.Path.{_≡_, sym, _∙_, ap, ap₂, subst}
 use mathlib.Core.Bool.{Bool, true, false, not, cond}
-use mathlib.Core.List.{List, [], _∷_}
-use Prim.Native.Nat.{ℕ, zero, suc, _+_, _*_, _/_, _%_, _^_, _≤_, _<_}
+use mathlib.Core.List.{[], _∷_}
+use Prim.Native.Nat.{ℕ, suc, _+_, _*_, _/_, _%_, _^_}
 use native.Mathlib.Omega.{arith}
 use lib.Dec.{T, eqb, eqb→eq}
 use lib.Pow.{pow-add}
-use lib.IntN.{ℤ, pos, negsuc, negℤ, natAbs, _+ℤ_, _-ℤ_, _*ℤ_}
+use lib.IntN.{ℤ, pos, _+ℤ_, _-ℤ_, _*ℤ_}
 use Rattle.exact.specs.Meaning.Number.{Quad, Ω, ints, omegas, quads, power, addQ, constQ, mulQ, negQ, conjQ, omega′, omega^, root2, root2^}
 use Rattle.exact.specs.Algebra.Ring.{ints-laws}
 use Rattle.exact.specs.Algebra.Solver.{Expr, var, con, _⊕_, _⊗_, _⊝_, exprs, solve, ring₄}

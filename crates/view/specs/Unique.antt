@@ -10,7 +10,7 @@ use Rattle.exact.specs.Meaning.Number.{Ω}
 use Rattle.exact.specs.Meaning.Triple.{Triple, Unitary}
 use Rattle.view.specs.Meaning.Surd.{Surd}
 use Rattle.view.specs.Meaning.Near.{Shows}
-use Rattle.view.specs.Meaning.Outcome.{Entry, Viewed, ExponentFits, triple, Checked, exponent, coefficient, unitary, accepted, Outcome}
+use Rattle.view.specs.Meaning.Outcome.{Viewed, ExponentFits, triple, Checked, exponent, coefficient, unitary, accepted, Outcome}
 use Rattle.view.specs.declared.matrix.View.{View}
 use Rattle.view.specs.declared.Answer.{Answer}
 

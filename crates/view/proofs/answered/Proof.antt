@@ -1,11 +1,8 @@
 -- `answered` meets its contract. Assumes nothing.
 use borrow.Author.Needs.{needs}
-use mathlib.Core.Path.{_≡_, sym, subst}
-use Prim.Native.Nat.{ℕ}
-use lib.IntN.{ℤ}
-use Rattle.exact.specs.Meaning.Number.{Ω}
-use Rattle.exact.specs.Meaning.Triple.{Triple, Unitary}
-use Rattle.view.specs.Meaning.Outcome.{quad, triple, ExponentFits, Checked, Viewed}
+use mathlib.Core.Path.{sym, subst}
+use Rattle.exact.specs.Meaning.Triple.{Unitary}
+use Rattle.view.specs.Meaning.Outcome.{Viewed}
 use Rattle.view.specs.Unique.{accepted-only}
 use Rattle.view.proofs.Numbers.{held, quad-held, triple-held, exponent-held}
 use Rattle.view.proofs.answered.Statement.{statement}

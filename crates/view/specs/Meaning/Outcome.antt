@@ -5,8 +5,7 @@ use Prim.Native.Nat.{ℕ, _≤_}
 use lib.IntN.{ℤ, pos, natAbs}
 use lib.Signed.{_≤ℤ_}
 use lib.Ieee.{Float, binary64, ofBits}
-use Rattle.exact.specs.Meaning.Number.{Quad, Ω}
-use Rattle.exact.specs.Meaning.Matrix.{Mat, Matrix}
+use Rattle.exact.specs.Meaning.Number.{Ω}
 use Rattle.exact.specs.Meaning.Triple.{Triple, entries, Unitary}
 use Rattle.exact.specs.Meaning.Limits as Limits
 use Rattle.view.specs.Meaning.Surd.{real, imaginary}

@@ -4,7 +4,7 @@ use mathlib.Core.Bool.{Bool, cond}
 use Prim.Native.Nat.{ℕ, _+_, _/_, _%_}
 use lib.Dec.{eqb}
 use lib.IntN.{ℤ, _+ℤ_, _-ℤ_}
-use Rattle.exact.specs.Meaning.Number.{Quad, Ω}
+use Rattle.exact.specs.Meaning.Number.{Ω}
 
 -- A + B·root two, over 2 to the s
 pub record Surd : Type 0 where

@@ -1,8 +1,7 @@
 -- `entries` meets its contract. Assumes nothing.
-use mathlib.Core.Path.{_≡_, sym, subst}
-use lib.IntN.{natAbs}
-use Rattle.exact.specs.Meaning.Triple.{Triple, Unitary}
-use Rattle.view.specs.Meaning.Outcome.{quad, triple, Viewed}
+use mathlib.Core.Path.{sym, subst}
+use Rattle.exact.specs.Meaning.Triple.{Unitary}
+use Rattle.view.specs.Meaning.Outcome.{Viewed}
 use Rattle.view.proofs.Numbers.{held, quad-held, triple-held, exponent-held, exponent-few, exponent-casts}
 use Rattle.view.proofs.matrix.entries.Statement.{statement}
 use Rattle.view.proofs.matrix.entries.Tie as tie

@@ -1,5 +1,5 @@
 -- `shown` meets its contract: conjugation, omega^n and the minus keep the size, and give the matrix's entries. Assumes nothing.
-use mathlib.Core.Path.{_≡_, subst, ap, _∙_}
+use mathlib.Core.Path.{subst, ap, _∙_}
 use Prim.Native.Nat.{_^_}
 use Rattle.exact.specs.Meaning.Number.{ints, mulQ, negQ, omega^}
 use Rattle.view.specs.Meaning.Outcome.{Entry}

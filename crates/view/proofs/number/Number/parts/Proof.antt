@@ -1,9 +1,8 @@
 -- `Number::parts` meets its contract. Assumes nothing.
 use mathlib.Core.Path.{sym, subst, ap₂}
-use lib.IntN.{_+ℤ_, _-ℤ_}
-use Rattle.view.specs.Meaning.Surd.{Surd, over}
+use Rattle.view.specs.Meaning.Surd.{over}
 use Rattle.view.specs.Meaning.Near.{Shows}
-use Rattle.view.specs.Size.{ring, size, Fit, coefficients, real-fit, imaginary-fit, at-most-60}
+use Rattle.view.specs.Size.{ring, Fit, coefficients, real-fit, imaginary-fit, at-most-60}
 use Rattle.view.proofs.Numbers.{held, same-held, sum-fits, sum-held, difference-fits, difference-held, under-31}
 use Rattle.view.proofs.number.Number.parts.Statement.{statement}
 use Rattle.view.proofs.number.Number.parts.Tie as tie
