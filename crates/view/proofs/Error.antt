@@ -9,6 +9,7 @@ use lib.IntN.{ℤ, pos, negsuc, natAbs}
 use lib.Dec.{lit≤, lit<}
 use Rattle.exact.specs.Whole.Linear.{up, down}
 use Rattle.view.specs.Meaning.Near.{isNeg}
+use Rattle.view.specs.Root.{Rn}
 
 -- p - p' ≤ (q - q') * √2, where the subtraction of ℕ stops at 0
 pub record Below (p p' q q' : ℕ) : Type 0 where
@@ -27,15 +28,15 @@ loosen p p' p'' q q' h b = record {
     more : (p p' p'' : ℕ) → p' ≤ p'' → p' - p ≤ p'' - p
     more p p' p'' h = omega arith
 
--- L / K ≤ √2 ≤ H / K, and H / K is the f64 nearest to √2
+-- L / K ≤ √2 ≤ H / K, and H / K is the root-two constant
 abbrev pub K : ℕ
 K = 2 ^ 53
 
-abbrev pub L : ℕ
-L = 12738103345051545
-
 abbrev pub H : ℕ
-H = 12738103345051546
+H = 2 * Rn
+
+abbrev pub L : ℕ
+L = H - 1
 
 square : (d q k l : ℕ) → d * k ≤ q * l → d * d * (k * k) ≤ q * q * (l * l)
 square d q k l h = le-trans (le-of-eq (mul-mul-mul-comm d d k k)) (le-trans (mul-le-mul h h) (le-of-eq (mul-mul-mul-comm q l q l)))

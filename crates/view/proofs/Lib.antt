@@ -1,10 +1,12 @@
 mod Rounding
-mod Casting
 mod Operations
+mod Casting
 mod Units
 mod Powers
 mod Error
+mod Product
+mod Signs
 mod Whole
+mod Zero
 mod Numbers
 mod Branches
-mod Zero

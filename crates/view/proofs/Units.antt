@@ -51,7 +51,6 @@ split s h = ap (λ (x : ℕ). 2 ^ x) (apart s h) ∙ pow-add 2 (1022 - s) 52
     apart : (s : ℕ) → s ≤ 52 → 1074 - s ≡ 1022 - s + 52
     apart s h = omega arith
 
--- K is 2 to the 53, and H / K is the constant
 pub exact-is : (n s : ℕ) → s ≤ 52 → exact n s * 2 ^ 53 ≡ n * 2 ^ (1074 - s) * (2 * Rn)
 exact-is n s h = go (2 ^ (1022 - s)) (2 ^ (1074 - s)) (split s h)
   where
