@@ -3,3 +3,4 @@ pub mod Root
 pub mod Size
 pub mod Tied
 pub mod Unique
+pub mod Cases
