@@ -6,3 +6,4 @@ pub mod Test
 pub mod Words
 pub mod Triples
 pub mod Least
+pub mod Sizes

@@ -6,3 +6,4 @@ pub mod Triple
 pub mod Normal
 pub mod Clifford
 pub mod Limits
+pub mod Endings

@@ -5,7 +5,7 @@ use mathlib.Core.Path.{_≡_, refl, sym, _∙_, ap, ap₂}
 use mathlib.Core.List.{List, [], _∷_}
 use Prim.Native.Nat.{ℕ, zero, suc, _+_}
 use lib.Dec.{T}
-use lib.IntN.{ℤ, pos, negsuc}
+use lib.IntN.{ℤ, pos, negsuc, negℤ}
 use Rattle.exact.specs.Meaning.Number.{Ops, Quad, ints, constQ, addQ, negQ, mulQ, conjQ, omega′, root2, quads, Ω, omegas, root2^}
 use Rattle.exact.specs.Whole.Parity.{halved}
 use Rattle.exact.specs.Algebra.Ring.{Laws, ints-laws}
@@ -87,6 +87,10 @@ module _ (O : Ops) (L : Laws O) where
 -- ---- ℤ[omega]
 pub omegas-laws : Laws omegas
 omegas-laws = quads-laws ints ints-laws
+
+-- omega times
+pub times-omega : (x : Ω) → mulQ ints (omega′ ints) x ≡ record { a = x .b; b = x .c; c = x .d; d = negℤ (x .a) }
+times-omega x = solveQ ints ints-laws (parts x []) (mulQ exprs (omega′ exprs) X₀) (record { a = X₀ .b; b = X₀ .c; c = X₀ .d; d = ⊖ (X₀ .a) }) (tt, tt, tt, tt)
 
 -- ---- conjugation goes through every polynomial
 abbrev pub conjs : List Ω → List Ω

@@ -116,28 +116,29 @@ pub record Reduces (t r : Triple) : Type 0 where
   pub reduced : Reduced r
   pub n-small : r .n < 8
 
-abbrev withN : Triple → Triple
-withN t = record { k = t .k; n = t .n % 8; z = t .z; w = t .w }
+-- n modulo 8
+abbrev pub modEight : Triple → Triple
+modEight t = record { k = t .k; n = t .n % 8; z = t .z; w = t .w }
 
 -- by k, which falls with each division
 abbrev lower : ℕ → Triple → Triple
-lower zero t = withN t
-lower (suc k) t = elim (both t) [ true ↦ lower k (lowered k t) | false ↦ withN t ]
+lower zero t = modEight t
+lower (suc k) t = elim (both t) [ true ↦ lower k (lowered k t) | false ↦ modEight t ]
 
 abbrev pub reduce : Triple → Triple
 reduce t = lower (t .k) t
 
-withN-same : (t : Triple) → entries (withN t) ≡ entries t
-withN-same t = ap (λ u. record { m = record { p = t .z; q = negQ ints (mulQ ints (conjQ ints (t .w)) u); r = t .w; s = mulQ ints (conjQ ints (t .z)) u }; e = t .k }) (sym (omega^-mod (t .n)))
+pub modEight-same : (t : Triple) → entries (modEight t) ≡ entries t
+modEight-same t = ap (λ u. record { m = record { p = t .z; q = negQ ints (mulQ ints (conjQ ints (t .w)) u); r = t .w; s = mulQ ints (conjQ ints (t .z)) u }; e = t .k }) (sym (omega^-mod (t .n)))
 
-here : (t : Triple) → T (reducedTest t) → Reduces t (withN t)
-here t test = record { same = Same-of (withN-same t); reduced = test-reduced (withN t) test; n-small = omega arith }
+here : (t : Triple) → T (reducedTest t) → Reduces t (modEight t)
+here t test = record { same = Same-of (modEight-same t); reduced = test-reduced (modEight t) test; n-small = omega arith }
 
 lower-reduces : (k : ℕ) (t : Triple) → t .k ≡ k → Reduces t (lower k t)
 lower-reduces zero t e = here t (rw e tt)
 lower-reduces (suc k) t e = go (both t) refl (lower-reduces k (lowered k t) refl)
   where
-    go : (b : Bool) → both t ≡ b → Reduces (lowered k t) (lower k (lowered k t)) → Reduces t (elim b [ true ↦ lower k (lowered k t) | false ↦ withN t ])
+    go : (b : Bool) → both t ≡ b → Reduces (lowered k t) (lower k (lowered k t)) → Reduces t (elim b [ true ↦ lower k (lowered k t) | false ↦ modEight t ])
     go true f r = record { same = Same-trans (r .same) (lowered-same k t e (rw f tt)); reduced = r .reduced; n-small = r .n-small }
     go false f r = here t (rw (e, f) tt)
 

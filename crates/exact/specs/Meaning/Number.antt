@@ -1,7 +1,7 @@
 -- Ring numbers, as document 01 has them: (a,b,c,d) is a·omega³ + b·omega² + c·omega + d, where omega⁴ = -1.
 -- Each operation is written once over any ring's operations (`Ops`); at `ints`, the whole numbers, it is document 01's.
 use mathlib.Core.Bool.{Bool, cond}
-use Prim.Native.Nat.{ℕ, zero, suc, _+_, _*_, _%_}
+use Prim.Native.Nat.{ℕ, zero, suc, _+_, _*_, _%_, _≤_}
 use lib.Dec.{eqb}
 use lib.IntN.{ℤ, pos, negsuc, negℤ, natAbs, _+ℤ_, _*ℤ_}
 
@@ -84,3 +84,10 @@ bit b = cond b 1 0
 
 abbrev pub residue : Ω → ℕ
 residue x = bit (odd (x .a)) * 8 + bit (odd (x .b)) * 4 + bit (odd (x .c)) * 2 + bit (odd (x .d))
+
+-- ---- each coefficient is at most n in size
+pub record Sized (n : ℕ) (x : Ω) : Type 0 where
+  pub a-small : natAbs (x .a) ≤ n
+  pub b-small : natAbs (x .b) ≤ n
+  pub c-small : natAbs (x .c) ≤ n
+  pub d-small : natAbs (x .d) ≤ n

@@ -2,8 +2,9 @@
 use mathlib.Core.Path.{_≡_}
 use mathlib.Core.Bool.{Bool, true, false}
 use mathlib.Core.List.{List, [], _∷_}
-use Prim.Native.Nat.{ℕ, _+_}
+use Prim.Native.Nat.{ℕ, _+_, _<_}
 use lib.Dec.{T}
+use lib.ListN.{length, getD}
 use lib.IntN.{ℤ, pos, negsuc}
 use Rattle.exact.specs.Meaning.Number.{Ops, Quad, ints, constQ, mulQ, omega′}
 use Rattle.exact.specs.Meaning.Matrix.{Mat, Matrix, unit, _·_}
@@ -86,3 +87,14 @@ pub record In (alphabet : Letter → Bool) (b : ℕ) : Type 0 where
   pub letter-there : Letter
   pub allowed : T (alphabet letter-there)
   pub is : byte letter-there ≡ b
+
+-- the first place that has a byte outside an alphabet
+pub record FirstOutside (alphabet : Letter → Bool) (bs : List ℕ) (place : ℕ) : Type 0 where
+  pub there : place < length bs
+  pub outside : In alphabet (getD bs place 0) → ⊥
+  pub before : (i : ℕ) → i < place → In alphabet (getD bs i 0)
+
+-- the bytes spell letters of an alphabet
+pub record Spells (alphabet : Letter → Bool) (bs : List ℕ) (u : List Letter) : Type 0 where
+  pub spelled : bytes u ≡ bs
+  pub inside : (i : ℕ) → i < length bs → In alphabet (getD bs i 0)

@@ -6,10 +6,10 @@ use native.Mathlib.Omega.{arith}
 use borrow.Author.Tests.{eqb-true, eqb-false}
 use lib.Dec.{eqb}
 use lib.IntN.{ℤ, pos, negsuc, sucℤ, predℤ, negℤ, natAbs, _+ℤ_, _-ℤ_, _*ℤ_, +ℤ-idl, sucℤ-+ℤ, predℤ-+ℤ, zero-*ℤ, sucℤ-*ℤ, predℤ-*ℤ}
-use lib.Signed.{quotZ}
+use lib.Signed.{shrZ}
 use Rattle.exact.specs.Meaning.Number.{odd, bit}
 use Rattle.exact.specs.Whole.Laws.{ℤ-steps}
-use Rattle.exact.specs.Whole.Linear.{up, down, int, sum, difference, negation}
+use Rattle.exact.specs.Whole.Linear.{up, down, int, sum, difference}
 
 -- ---- one or the other
 abbrev pub xr : Bool → Bool → Bool
@@ -116,21 +116,26 @@ bit-odd z = go (odd z) refl
     go true e = sym (eqb-true (natAbs z % 2) 1 e)
     go false e = omega (arith, eqb-false (natAbs z % 2) 1 e)
 
--- ---- half, rounded toward zero as machines do
+-- by the test against 0
+pub not-even : (z : ℤ) → not (eqb (natAbs z % 2) 0) ≡ odd z
+not-even z = go (natAbs z % 2) (omega arith)
+  where
+    go : (n : ℕ) → n < 2 → not (eqb n 0) ≡ eqb n 1
+    go zero h = refl
+    go (suc zero) h = refl
+    go (suc (suc n)) h = absurd (omega arith)
+
+-- ---- half, rounded down as a shift does
 abbrev pub half : ℤ → ℤ
-half z = quotZ z (pos 2)
+half z = shrZ z 2
 
-half-parts : (z : ℤ) → (up (half z) ≡ up z / 2) × (down (half z) ≡ down z / 2)
-half-parts (pos n) = (refl, refl)
-half-parts (negsuc n) = negation (pos (suc n / 2))
-
-even-parts : (z : ℤ) → odd z ≡ false → (up z % 2 ≡ 0) × (down z % 2 ≡ 0)
-even-parts (pos n) e = (omega (arith, eqb-false (n % 2) 1 e), refl)
-even-parts (negsuc n) e = (refl, omega (arith, eqb-false (suc n % 2) 1 e))
+half-parts : (z : ℤ) → odd z ≡ false → (up (half z) + up (half z) ≡ up z) × (down (half z) + down (half z) ≡ down z)
+half-parts (pos n) e = (omega (arith, eqb-false (n % 2) 1 e), refl)
+half-parts (negsuc n) e = (refl, omega (arith, eqb-false (suc n % 2) 1 e))
 
 -- an even number is twice its half
 pub half-double : (z : ℤ) → odd z ≡ false → half z +ℤ half z ≡ z
-half-double z e = omega (arith, int, sum (half z) (half z), half-parts z, even-parts z e)
+half-double z e = omega (arith, int, sum (half z) (half z), half-parts z e)
 
 -- the halves of a sum and a difference: x of x + y and x - y, and y
 module _ (x y : ℤ) (e : odd (x +ℤ y) ≡ false) where

@@ -14,6 +14,7 @@ use mir.Val.{SFits, hbits}
 use Rattle.exact.specs.Meaning.Number.{ints}
 use Rattle.exact.specs.Algebra.Solver.{Expr, var, con, _⊕_, _⊗_, ⊖, eval, at}
 use Rattle.exact.specs.Whole.Linear.{up, down, cond-ind}
+use Rattle.exact.specs.Whole.Parity.{half}
 
 -- ---- absolute values
 pub natAbs-parts : (z : ℤ) → natAbs z ≡ up z + down z
@@ -48,6 +49,10 @@ natAbs-mul (pos a) (pos b) = refl
 natAbs-mul (pos a) (negsuc b) = natAbs-neg (pos (a * suc b))
 natAbs-mul (negsuc a) (pos b) = natAbs-neg (pos (suc a * b))
 natAbs-mul (negsuc a) (negsuc b) = refl
+
+pub natAbs-half : (z : ℤ) → natAbs (half z) ≤ natAbs z
+natAbs-half (pos n) = omega arith
+natAbs-half (negsuc n) = omega arith
 
 pub mag-abs : (z : ℤ) → mag z ≤ natAbs z
 mag-abs (pos n) = omega arith

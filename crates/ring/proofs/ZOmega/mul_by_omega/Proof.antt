@@ -1,0 +1,26 @@
+-- `ring::ZOmega::mul_by_omega` meets its contract: each coefficient by what its size allows.
+use mathlib.Core.Path.{sym, _∙_}
+use Prim.Native.Nat.{_^_}
+use lib.IntN.{pos}
+use Rattle.exact.specs.Algebra.Omega.{quad-path}
+use Rattle.exact.specs.Whole.Machine.{Code, arg, lit, halved, _∔_, _∸_, _∗_}
+use Rattle.ring.specs.Number.{quad, turned}
+use Rattle.ring.specs.Code.{need₁, gives₁}
+use Rattle.ring.proofs.ZOmega.mul_by_omega.Statement.{statement}
+use Rattle.ring.proofs.ZOmega.mul_by_omega.Tie as tie
+
+sub-t6 : tie.Need-sub-t6
+sub-t6 c = let s = c .before .before .before .before in need₁ (2 ^ 31) (s .args .self) (s .pre .sized) (lit (pos 0) ∸ arg 0) tt
+
+returns : tie.Need-returns
+returns c =
+    let s = c .before .before .before .before in 
+    quad-path
+    (gives₁ (2 ^ 31) (s .args .self) (s .pre .sized) (arg 1) tt)
+    (gives₁ (2 ^ 31) (s .args .self) (s .pre .sized) (arg 2) tt)
+    (gives₁ (2 ^ 31) (s .args .self) (s .pre .sized) (arg 3) tt)
+    (gives₁ (2 ^ 31) (s .args .self) (s .pre .sized) (lit (pos 0) ∸ arg 0) tt)
+    ∙ sym (turned (quad (s .args .self)))
+
+pub mul-by-omega-spec : {M : Type 1} → statement M
+mul-by-omega-spec = tie.close (tie.spec sub-t6 returns)

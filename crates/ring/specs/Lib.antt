@@ -1,0 +1,3 @@
+-- Ring numbers of 64-bit coefficients, tied to the exact ones.
+pub mod Number
+pub mod Code

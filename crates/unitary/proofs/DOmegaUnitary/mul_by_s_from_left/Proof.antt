@@ -1,0 +1,28 @@
+-- `unitary::DOmegaUnitary::mul_by_s_from_left` meets its contract: w goes by omega twice.
+use mathlib.Core.Path.{_≡_, sym, _∙_, ap}
+use Prim.Native.Nat.{_+_, _%_, _^_}
+use Rattle.exact.specs.Meaning.Number.{Sized}
+use Rattle.ring.specs.Number.{quad}
+use Rattle.unitary.specs.Acts.{small-turned, twice-turned}
+use borrow.Author.Needs.{needs}
+use Rattle.unitary.proofs.DOmegaUnitary.mul_by_s_from_left.Statement.{statement}
+use Rattle.unitary.proofs.DOmegaUnitary.mul_by_s_from_left.Tie as tie
+
+mul-by-omega-requires : tie.Need-mul-by-omega-requires
+mul-by-omega-requires c κs = search needs
+
+mul-by-omega-requires-2 : tie.Need-mul-by-omega-requires-2
+mul-by-omega-requires-2 c κs = small-turned (c .before .before .before .pre .0) (c .mul-by-omega .ensures)
+
+add-t8 : tie.Need-add-t8
+add-t8 c = search needs
+
+returns : tie.Need-returns
+returns c =
+    let s = c .before .before .before .before in
+    let e = c .mul-by-omega2 .ensures ∙ twice-turned (quad (s .args .self .w)) (c .before .mul-by-omega .ensures) in
+    λ i. record { k = s .args .self .k; n = (s .args .self .n + 2) % 8; z = quad (s .args .self .z); w = e i }
+
+pub mul-by-s-from-left-spec : {M : Type 1} → statement M
+mul-by-s-from-left-spec =
+    tie.close (tie.spec mul-by-omega-requires mul-by-omega-requires-2 add-t8 returns)

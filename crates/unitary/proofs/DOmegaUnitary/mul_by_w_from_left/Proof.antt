@@ -1,0 +1,24 @@
+-- `unitary::DOmegaUnitary::mul_by_w_from_left` meets its contract: each part is what the letter makes of it.
+use mathlib.Core.Path.{_≡_}
+use Prim.Native.Nat.{_+_, _%_}
+use native.Mathlib.Numerals.{add-one}
+use Rattle.ring.specs.Number.{quad}
+use borrow.Author.Needs.{needs}
+use Rattle.unitary.proofs.DOmegaUnitary.mul_by_w_from_left.Statement.{statement}
+use Rattle.unitary.proofs.DOmegaUnitary.mul_by_w_from_left.Tie as tie
+
+mul-by-omega-requires : tie.Need-mul-by-omega-requires
+mul-by-omega-requires c κs = search needs
+
+mul-by-omega-requires-2 : tie.Need-mul-by-omega-requires-2
+mul-by-omega-requires-2 c κs = search needs
+
+add-t8 : tie.Need-add-t8
+add-t8 c = search needs
+
+returns : tie.Need-returns
+returns c = let s = c .before .before .before .before in λ i. record { k = s .args .self .k; n = (s .args .self .n + 2) % 8; z = c .before .mul-by-omega .ensures i; w = c .mul-by-omega2 .ensures i }
+
+pub mul-by-w-from-left-spec : {M : Type 1} → statement M
+mul-by-w-from-left-spec =
+    tie.close (tie.spec mul-by-omega-requires mul-by-omega-requires-2 add-t8 returns)

@@ -1,0 +1,55 @@
+-- `unitary::first_outside` meets its contract. The invariant: every byte passed is a letter; the measure is what is left of the length.
+
+use Prim.Native.Nat.{ℕ, _≤_, _<_, _-_}
+use native.Mathlib.Omega.{arith}
+use borrow.Author.Tests.{not-true, not-false}
+use lib.ListN.{length, getD}
+use Rattle.exact.specs.Meaning.Word.{In, job2}
+use Rattle.unitary.specs.Letters.{Scanned, below-next}
+use Rattle.unitary.proofs.first_outside.Statement.{statement}
+use Rattle.unitary.proofs.first_outside.Tie as tie
+
+abbrev Inv-loop : tie.InvT-loop
+Inv-loop word i₀ i = (i ≤ length word) × ((j : ℕ) → j < i → In job2 (getD word j 0))
+
+abbrev μ-loop : tie.MeasureT-loop
+μ-loop word i₀ i = length word - i
+
+loop-holds : tie.Need-loop-holds Inv-loop μ-loop
+loop-holds c = (omega arith, λ j h. absurd (omega arith))
+
+shared-slice-read-g : tie.Need-shared-slice-read-g Inv-loop μ-loop
+shared-slice-read-g c = omega arith
+
+is-letter-requires : tie.Need-is-letter-requires Inv-loop μ-loop
+is-letter-requires c κs = tt
+
+returns : tie.Need-returns Inv-loop μ-loop
+returns c = record { most = omega arith; before = c .before .before .before .before .loop .inv .1; outside = λ h. c .before .is-letter .ensures .no (not-true _ (c .if1 .taken)) }
+
+add-i : tie.Need-add-i Inv-loop μ-loop
+add-i c = omega arith
+
+loop-less : tie.Need-loop-less Inv-loop μ-loop
+loop-less c = omega arith
+
+loop-again : tie.Need-loop-again Inv-loop μ-loop
+loop-again c = (omega arith, below-next (c .before .before .before .before .loop .i) (c .before .before .before .before .loop .inv .1) (c .before .is-letter .ensures .yes (not-false _ (c .if1 .left))))
+
+returns-2 : tie.Need-returns-2 Inv-loop μ-loop
+returns-2 c = record { most = omega arith; before = c .before .loop .inv .1; outside = λ h. absurd (omega arith) }
+
+pub first-outside-spec : {M : Type 1} → statement M
+first-outside-spec =
+    tie.close
+    (tie.spec
+    Inv-loop
+    μ-loop
+    loop-holds
+    shared-slice-read-g
+    is-letter-requires
+    returns
+    add-i
+    loop-less
+    loop-again
+    returns-2)

@@ -1,0 +1,8 @@
+-- Triples in 64 bits: what jobs 1 and 2 promise (`Outcomes`), and what their proofs lean on.
+pub mod Triples
+pub mod Outcomes
+pub mod Checks
+pub mod Acts
+pub mod Letters
+pub mod Reading
+pub mod Unique

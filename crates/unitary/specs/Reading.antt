@@ -1,0 +1,101 @@
+-- Reading a word from its right end: what is known of the ending that has been read. Assumes nothing.
+use mathlib.Core.Path.{_≡_, refl, sym, _∙_, ap, subst}
+use mathlib.Core.Bool.{Bool, true, false}
+use mathlib.Core.List.{List, [], _∷_}
+use Prim.Native.Nat.{ℕ, zero, suc, _+_, _-_, _≤_, _<_}
+use native.Mathlib.Omega.{arith}
+use borrow.Author.Tests.{eqb-true, eqb-false}
+use lib.Dec.{eqb}
+use lib.IntN.{pos}
+use lib.ListN.{length, drop, getD}
+use Rattle.exact.specs.Meaning.Matrix.{Same, Least, _·_}
+use Rattle.exact.specs.Meaning.Word.{Letter, letter, word, bytes, In, job2}
+use Rattle.exact.specs.Meaning.Triple.{entries}
+use Rattle.exact.specs.Meaning.Endings.{Shallow, Deep, AllShallow, DeepAt}
+use Rattle.exact.specs.Meaning.Limits.{longest, deepest}
+use Rattle.exact.specs.Cases.Letters.{letterOf, lettersOf}
+use Rattle.exact.specs.Matrices.Same.{Same-refl, Same-sym, Same-trans, Same-of, Same-mul}
+use Rattle.exact.specs.Matrices.Least.{least-same, test-reduced}
+use Rattle.exact.specs.Matrices.Triples.{identity}
+use Rattle.unitary.specs.declared.DOmegaUnitary.{DOmegaUnitary}
+use Rattle.unitary.specs.Triples.{triple}
+use Rattle.unitary.specs.Outcomes.{MatrixOutcome}
+use Rattle.unitary.specs.Letters.{all-spell}
+use Rattle.unitary.specs.Acts.{Good, Acted}
+
+-- the letters from place i on have been read
+pub record Read (u : List Letter) (i : ℕ) (t : DOmegaUnitary) : Type 0 where
+  pub good : Good t
+  pub few : t .k ≤ deepest
+  pub same : Same (entries (triple t)) (word (drop i u))
+  pub after : (start : ℕ) → i ≤ start → start ≤ length u → Shallow (drop start u)
+
+-- ---- one letter more
+length-letters : (bs : List ℕ) → length (lettersOf bs) ≡ length bs
+length-letters [] = refl
+length-letters (b ∷ bs) = ap suc (length-letters bs)
+
+next-letter : (bs : List ℕ) (i : ℕ) → i < length bs → drop i (lettersOf bs) ≡ letterOf (getD bs i 0) ∷ drop (suc i) (lettersOf bs)
+next-letter [] i h = absurd (omega arith)
+next-letter (b ∷ bs) zero h = refl
+next-letter (b ∷ bs) (suc i) h = next-letter bs i (omega arith)
+
+module _ (bs : List ℕ) (i : ℕ) (h : i < length bs) (t r : DOmegaUnitary) (read : Read (lettersOf bs) (suc i) t) (acted : Acted (letterOf (getD bs i 0)) t r) where
+  joined : Same (entries (triple r)) (word (drop i (lettersOf bs)))
+  joined = subst (λ (u : List Letter). Same (entries (triple r)) (word u)) (sym (next-letter bs i h)) (Same-trans (acted .same) (Same-mul (Same-refl (letter (letterOf (getD bs i 0)))) (read .same)))
+
+  here : Least (word (drop i (lettersOf bs))) (r .k)
+  here = least-same joined (acted .good .reduced .least)
+
+  pub read-more : r .k ≤ deepest → Read (lettersOf bs) i r
+  read-more l = record { good = acted .good; few = l; same = joined; after = λ start a b. go start a b (eqb start i) refl }
+    where
+      go : (start : ℕ) → i ≤ start → start ≤ length (lettersOf bs) → (b : Bool) → eqb start i ≡ b → Shallow (drop start (lettersOf bs))
+      go start a b true e = subst (λ (j : ℕ). Shallow (drop j (lettersOf bs))) (sym (eqb-true start i e)) (record { k = r .k; least = here; few = l })
+      go start a b false e = read .after start (omega (arith, eqb-false start i e)) b
+
+  pub read-deep : deepest < r .k → DeepAt (lettersOf bs) i
+  read-deep l = record { there = omega (arith, length-letters bs); deep = record { k = r .k; least = here; many = l }; after = λ start a b. read .after start a b }
+
+-- the same, where i is the place after the letter
+module _ (bs : List ℕ) (i : ℕ) (some : 0 < i) (h : i ≤ length bs) (t r : DOmegaUnitary) (read : Read (lettersOf bs) i t) (acted : Acted (letterOf (getD bs (i - 1) 0)) t r) where
+  read′ : Read (lettersOf bs) (suc (i - 1)) t
+  read′ = subst (λ (j : ℕ). Read (lettersOf bs) j t) after-it read
+    where
+      after-it : i ≡ suc (i - 1)
+      after-it = omega arith
+
+  pub step-more : r .k ≤ deepest → Read (lettersOf bs) (i - 1) r
+  step-more = read-more bs (i - 1) (omega arith) t r read′ acted
+
+  pub step-deep : deepest < r .k → DeepAt (lettersOf bs) (i - 1)
+  step-deep = read-deep bs (i - 1) (omega arith) t r read′ acted
+
+-- ---- the empty ending
+drop-all : (u : List Letter) (i : ℕ) → length u ≤ i → drop i u ≡ []
+drop-all [] zero h = refl
+drop-all [] (suc i) h = refl
+drop-all (l ∷ u) zero h = absurd (omega arith)
+drop-all (l ∷ u) (suc i) h = drop-all u i (omega arith)
+
+pub read-start : (bs : List ℕ) (t : DOmegaUnitary) → triple t ≡ identity → Read (lettersOf bs) (length bs) t
+read-start bs t e =
+    record {
+      good = good;
+      few = omega (arith, ap (λ u. u .k) e);
+      same = none (length bs) (omega (arith, length-letters bs));
+      after = λ start a b. record { k = t .k; least = least-same (none start (omega (arith, length-letters bs))) (good .reduced .least); few = omega (arith, ap (λ u. u .k) e) };
+    }
+  where
+    good : Good t
+    good = record { unitary = rw e (record { squares-sum = refl; crosses-sum = refl }); reduced = test-reduced (triple t) (rw e tt); n-small = omega (arith, ap (λ u. u .n) e) }
+
+    none : (i : ℕ) → length (lettersOf bs) ≤ i → Same (entries (triple t)) (word (drop i (lettersOf bs)))
+    none i h = subst (λ (u : List Letter). Same (entries (triple t)) (word u)) (sym (drop-all (lettersOf bs) i h)) (Same-of (ap entries e))
+
+-- ---- the outcomes
+module _ (bs : List ℕ) (few : length bs ≤ longest) (all : (i : ℕ) → i < length bs → In job2 (getD bs i 0)) where
+  pub read-whole : (t : DOmegaUnitary) (i : ℕ) → i ≤ 0 → Read (lettersOf bs) i t → MatrixOutcome bs (record { refusal = 0; place = 0; matrix = t })
+  read-whole t zero h read =
+      MatrixOutcome.accepted few (lettersOf bs) (all-spell bs all) (record { at = λ start l. read .after start (omega arith) l }) t (read .same) (read .good .reduced) (read .good .n-small)
+  read-whole t (suc i) h read = absurd (omega arith)

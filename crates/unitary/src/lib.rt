@@ -1,0 +1,342 @@
+// Triples (z, w, n) over root two to the k in 64 bits, after src/unitary.rs: job 1, reduce and check; job 2, word to matrix.
+ghost use mathlib.Core.Path.{_≡_};
+ghost use Prim.Native.Nat.{_+_, _^_, _≤_, _<_};
+ghost use lib.IntN.{pos, natAbs};
+ghost use Rattle.exact.specs.Meaning.Limits.{largest, deepest};
+ghost use Rattle.exact.specs.Meaning.Number.{Sized};
+ghost use Rattle.exact.specs.Meaning.Word as Word;
+ghost use Rattle.exact.specs.Meaning.Word.{In};
+ghost use Rattle.exact.specs.Cases.Letters.{letterOf};
+ghost use Rattle.exact.specs.Matrices.Least.{lowered, modEight};
+ghost use Rattle.exact.specs.Matrices.Triples.{act, identity};
+ghost use Rattle.ring.specs.Number.{quad, Small};
+ghost use Rattle.unitary.specs.Triples.{triple, none};
+ghost use Rattle.unitary.specs.Outcomes.{InCoefficients, Answers, ReduceOutcome, MatrixOutcome};
+ghost use Rattle.unitary.specs.Checks.{Decides, UnitaryAt, CheckOutcome, bothTest};
+ghost use Rattle.unitary.specs.Letters.{Scanned};
+ghost use Rattle.unitary.specs.Acts.{Good, Acted, Both};
+
+use ring::ZOmega;
+
+pub struct DOmegaUnitary {
+    pub z: ZOmega,
+    pub w: ZOmega,
+    pub n: u8,
+    pub k: u8,
+}
+
+pub struct Checked {
+    pub refusal: u8,
+    pub matrix: DOmegaUnitary,
+}
+
+pub struct FromGates {
+    pub refusal: u8,
+    pub place: usize,
+    pub matrix: DOmegaUnitary,
+}
+
+// ---- checks
+
+// A coefficient is at most 2^30 in size.
+fn within_limit(x: i64) -> bool
+    ensures { λ r. ⌜ Decides (natAbs x ≤ largest) r ⌝ }
+{
+    if x < -exact::LARGEST {
+        return false;
+    }
+    x <= exact::LARGEST
+}
+
+fn within_limits(x: ZOmega) -> bool
+    ensures { λ r. ⌜ Decides (Sized largest (quad x)) r ⌝ }
+{
+    let a = x.a;
+    let b = x.b;
+    let c = x.c;
+    let d = x.d;
+    if !within_limit(a) {
+        return false;
+    }
+    if !within_limit(b) {
+        return false;
+    }
+    if !within_limit(c) {
+        return false;
+    }
+    within_limit(d)
+}
+
+fn power_of_two(k: u8) -> i64
+    requires { ⌜ k ≤ deepest ⌝ }
+    ensures { λ r. ⌜ r ≡ pos (2 ^ k) ⌝ }
+{
+    1i64 << k
+}
+
+// Both sums, each compared in two halves: the eight squares alone could pass 64 signed bits.
+fn is_unitary(k: u8, z: ZOmega, w: ZOmega) -> bool
+    requires { ⌜ k ≤ deepest ⌝ ∗ ⌜ InCoefficients z w ⌝ }
+    ensures { λ r. ⌜ Decides (UnitaryAt k z w) r ⌝ }
+{
+    let size = power_of_two(k);
+    let z_squares = z.squares();
+    let w_squares = w.squares();
+    if z_squares != size - w_squares {
+        return false;
+    }
+    let z_crosses = z.crosses();
+    let w_crosses = w.crosses();
+    z_crosses == 0 - w_crosses
+}
+
+// Refusals 3, 4 and 5 in that order, or 0.
+pub fn check(k: i64, z: ZOmega, w: ZOmega) -> u8
+    ensures { λ r. ⌜ CheckOutcome k z w r ⌝ }
+{
+    if k < 0 {
+        return exact::EXPONENT;
+    }
+    if k > exact::DEEPEST {
+        return exact::EXPONENT;
+    }
+    if !within_limits(z) {
+        return exact::COEFFICIENT;
+    }
+    if !within_limits(w) {
+        return exact::COEFFICIENT;
+    }
+    if !is_unitary(k as u8, z, w) {
+        return exact::UNITARY;
+    }
+    exact::ACCEPTED
+}
+
+// ---- triples
+
+fn nothing() -> DOmegaUnitary
+    ensures { λ r. ⌜ r ≡ none ⌝ }
+{
+    let z = ZOmega { a: 0, b: 0, c: 0, d: 0 };
+    let w = ZOmega { a: 0, b: 0, c: 0, d: 0 };
+    DOmegaUnitary { z: z, w: w, n: 0, k: 0 }
+}
+
+impl DOmegaUnitary {
+    pub fn identity() -> DOmegaUnitary
+        ensures { λ r. ⌜ triple r ≡ identity ⌝ }
+    {
+        let z = ZOmega { a: 0, b: 0, c: 0, d: 1 };
+        let w = ZOmega { a: 0, b: 0, c: 0, d: 0 };
+        DOmegaUnitary { z: z, w: w, n: 0, k: 0 }
+    }
+
+    // Whether root two divides both z and w.
+    fn divisible(self) -> bool
+        requires { ⌜ Small (self .z) ⌝ ∗ ⌜ Small (self .w) ⌝ }
+        ensures { λ r. ⌜ r ≡ bothTest (triple self) ⌝ }
+    {
+        let z = self.z;
+        let w = self.w;
+        z.divisible() && w.divisible()
+    }
+
+    // The exponent one lower, z and w divided by root two.
+    fn lowered(self) -> DOmegaUnitary
+        requires { ⌜ Small (self .z) ⌝ ∗ ⌜ Small (self .w) ⌝ ∗ ⌜ 0 < self .k ⌝ }
+        ensures { λ r. ⌜ Both (λ k. triple r ≡ lowered k (triple self)) (self .k) ⌝ }
+    {
+        let z = self.z;
+        let w = self.w;
+        let n = self.n;
+        let k = self.k;
+        let new_z = z.mul_by_inv_sqrt2();
+        let new_w = w.mul_by_inv_sqrt2();
+        DOmegaUnitary { z: new_z, w: new_w, n: n, k: k - 1 }
+    }
+
+    // The reduced triple of the same matrix, n from 0 to 7.
+    pub fn reduce_denomexp(self) -> DOmegaUnitary
+        requires { ⌜ Small (self .z) ⌝ ∗ ⌜ Small (self .w) ⌝ }
+        ensures { λ r. ⌜ Answers (triple self) (triple r) ⌝ }
+    {
+        let z = self.z;
+        let w = self.w;
+        let n = self.n;
+        let k = self.k;
+        let mut t = DOmegaUnitary { z: z, w: w, n: n % 8, k: k };
+        while t.k > 0 && t.divisible() {
+            t = t.lowered();
+        }
+        t
+    }
+
+    pub fn mul_by_t_from_left(self) -> DOmegaUnitary
+        requires { ⌜ Small (self .w) ⌝ ∗ ⌜ self .n < 8 ⌝ }
+        ensures { λ r. ⌜ triple r ≡ modEight (act Word.T′ (triple self)) ⌝ }
+    {
+        let z = self.z;
+        let w = self.w;
+        let n = self.n;
+        let k = self.k;
+        let new_w = w.mul_by_omega();
+        DOmegaUnitary { z: z, w: new_w, n: (n + 1) % 8, k: k }
+    }
+
+    pub fn mul_by_s_from_left(self) -> DOmegaUnitary
+        requires { ⌜ Small (self .w) ⌝ ∗ ⌜ self .n < 8 ⌝ }
+        ensures { λ r. ⌜ triple r ≡ modEight (act Word.S (triple self)) ⌝ }
+    {
+        let z = self.z;
+        let w = self.w;
+        let n = self.n;
+        let k = self.k;
+        let half_w = w.mul_by_omega();
+        let new_w = half_w.mul_by_omega();
+        DOmegaUnitary { z: z, w: new_w, n: (n + 2) % 8, k: k }
+    }
+
+    pub fn mul_by_x_from_left(self) -> DOmegaUnitary
+        requires { ⌜ self .n < 8 ⌝ }
+        ensures { λ r. ⌜ triple r ≡ modEight (act Word.X (triple self)) ⌝ }
+    {
+        let z = self.z;
+        let w = self.w;
+        let n = self.n;
+        let k = self.k;
+        DOmegaUnitary { z: w, w: z, n: (n + 4) % 8, k: k }
+    }
+
+    pub fn mul_by_w_from_left(self) -> DOmegaUnitary
+        requires { ⌜ Small (self .z) ⌝ ∗ ⌜ Small (self .w) ⌝ ∗ ⌜ self .n < 8 ⌝ }
+        ensures { λ r. ⌜ triple r ≡ modEight (act Word.W (triple self)) ⌝ }
+    {
+        let z = self.z;
+        let w = self.w;
+        let n = self.n;
+        let k = self.k;
+        let new_z = z.mul_by_omega();
+        let new_w = w.mul_by_omega();
+        DOmegaUnitary { z: new_z, w: new_w, n: (n + 2) % 8, k: k }
+    }
+
+    // The exponent one higher: it is not reduced here.
+    pub fn mul_by_h_from_left(self) -> DOmegaUnitary
+        requires { ⌜ Small (self .z) ⌝ ∗ ⌜ Small (self .w) ⌝ ∗ ⌜ self .n < 8 ⌝ ∗ ⌜ self .k < 255 ⌝ }
+        ensures { λ r. ⌜ triple r ≡ modEight (act Word.H (triple self)) ⌝ }
+    {
+        let z = self.z;
+        let w = self.w;
+        let n = self.n;
+        let k = self.k;
+        let new_z = z.add(w);
+        let new_w = z.sub(w);
+        DOmegaUnitary { z: new_z, w: new_w, n: (n + 4) % 8, k: k + 1 }
+    }
+}
+
+// Job 1: reduce and check a triple.
+pub fn reduce(k: i64, n: u8, z: ZOmega, w: ZOmega) -> Checked
+    ensures { λ r. ⌜ ReduceOutcome k n z w r ⌝ }
+{
+    let refusal = check(k, z, w);
+    if refusal != exact::ACCEPTED {
+        let matrix = nothing();
+        return Checked { refusal: refusal, matrix: matrix };
+    }
+    let t = DOmegaUnitary { z: z, w: w, n: n, k: k as u8 };
+    let matrix = t.reduce_denomexp();
+    Checked { refusal: 0, matrix: matrix }
+}
+
+// ---- words
+
+// A letter of job 2.
+fn is_letter(g: u8) -> bool
+    ensures { λ r. ⌜ Decides (In Word.job2 g) r ⌝ }
+{
+    if g == b'I' {
+        return true;
+    }
+    if g == b'H' {
+        return true;
+    }
+    if g == b'S' {
+        return true;
+    }
+    if g == b'X' {
+        return true;
+    }
+    if g == b'W' {
+        return true;
+    }
+    g == b'T'
+}
+
+// The first place whose byte is no letter, or the length.
+fn first_outside(word: &[u8]) -> usize
+    ensures { λ r. ⌜ Scanned Word.job2 (now (word .entry)) r ⌝ }
+{
+    let mut i: usize = 0;
+    while i < word.len() {
+        let g = word[i];
+        if !is_letter(g) {
+            return i;
+        }
+        i += 1;
+    }
+    i
+}
+
+impl DOmegaUnitary {
+    // Only H can change the exponent, by at most one either way.
+    fn mul_by_letter_from_left(self, g: u8) -> DOmegaUnitary
+        requires { ⌜ Good self ⌝ ∗ ⌜ self .k ≤ deepest ⌝ }
+        ensures { λ r. ⌜ Acted (letterOf g) self r ⌝ }
+    {
+        if g == b'H' {
+            let t = self.mul_by_h_from_left();
+            return t.reduce_denomexp();
+        }
+        if g == b'S' {
+            return self.mul_by_s_from_left();
+        }
+        if g == b'X' {
+            return self.mul_by_x_from_left();
+        }
+        if g == b'W' {
+            return self.mul_by_w_from_left();
+        }
+        if g == b'T' {
+            return self.mul_by_t_from_left();
+        }
+        self
+    }
+}
+
+// Job 2: word to matrix. The word is read from its right end, and each ending is kept reduced.
+pub fn from_gates(word: &[u8]) -> FromGates
+    ensures { λ r. ⌜ MatrixOutcome (now (word .entry)) r ⌝ }
+{
+    if word.len() > exact::LONGEST {
+        let matrix = nothing();
+        return FromGates { refusal: exact::LONG, place: 0, matrix: matrix };
+    }
+    let bad = first_outside(word);
+    if bad < word.len() {
+        let matrix = nothing();
+        return FromGates { refusal: exact::LETTER, place: bad, matrix: matrix };
+    }
+    let mut t = DOmegaUnitary::identity();
+    let mut i = word.len();
+    while i > 0 {
+        let g = word[i - 1];
+        i -= 1;
+        t = t.mul_by_letter_from_left(g);
+        if t.k > 60 {
+            let matrix = nothing();
+            return FromGates { refusal: exact::DEEP, place: i, matrix: matrix };
+        }
+    }
+    FromGates { refusal: 0, place: 0, matrix: t }
+}
