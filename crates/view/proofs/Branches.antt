@@ -1,6 +1,7 @@
 -- The two branches of `float::over`: A and B for an even exponent and for an odd one, and that they are small. Assumes nothing.
 use mathlib.Core.Path.{_≡_, refl, sym, _∙_, ap, ap₂, subst}
 use mathlib.Core.Bool.{Bool, true, false, cond}
+use mathlib.Core.List.{[], _∷_}
 use Prim.Native.Nat.{ℕ, _+_, _/_, _%_, _^_, _≤_}
 use native.Mathlib.Nat.{le-trans}
 use native.Mathlib.Omega.{arith}
@@ -13,7 +14,15 @@ use mir.Val.{SFits}
 use Rattle.view.specs.Meaning.Surd.{Surd, even, over}
 use Rattle.view.specs.Meaning.Near.{Shows}
 use Rattle.view.specs.Size.{Fit}
-use Rattle.view.proofs.Numbers.{held, held-is, sum-fits, sum-held}
+use Rattle.exact.specs.Whole.Machine as Machine
+use Rattle.exact.specs.Whole.Machine.{arg, _∔_, need-by, result-by}
+
+-- a number, stored and read back
+abbrev held : ℤ → ℤ
+held = Machine.held w64
+
+held-is : (z : ℤ) → natAbs z ≤ 2 ^ 31 → held z ≡ z
+held-is z h = result-by w64 (z ∷ []) (2 ^ 31 ∷ []) (h, tt) (arg 0) tt
 
 abbrev at-even : ℕ → ℤ → ℤ → Surd
 at-even k u v = record { A = u +ℤ u; B = v; s = (k + 2) / 2 }
@@ -63,10 +72,10 @@ module _ (k : ℕ) (u v : ℤ) (f : Fit (over k u v)) (e : k % 2 ≡ 0) where
   even-args = record { A = held (held u +ℤ held u); B = held v; s = (k + 2) / 2 }
 
   even-args-are : even-args ≡ at-even k u v
-  even-args-are = ap₂ (λ a b. record { A = a; B = b; s = (k + 2) / 2 }) (sum-held u u u-31 u-31) (held-is v (B-31 (at-even k u v) fit-even))
+  even-args-are = ap₂ (λ a b. record { A = a; B = b; s = (k + 2) / 2 }) (result-by w64 (u ∷ []) (2 ^ 31 ∷ []) (u-31, tt) (arg 0 ∔ arg 0) tt) (held-is v (B-31 (at-even k u v) fit-even))
 
   pub doubled-fits : SFits w64 (held u +ℤ held u)
-  doubled-fits = sum-fits u u u-31 u-31
+  doubled-fits = need-by w64 (u ∷ []) (2 ^ 31 ∷ []) (u-31, tt) (arg 0 ∔ arg 0) tt
 
   pub asked-even : Asks even-args
   asked-even = subst Asks (sym even-args-are) (asked (at-even k u v) fit-even)

@@ -9,18 +9,12 @@ use native.Mathlib.Omega.{arith}
 use lib.Dec.{T, eqb, eqb→eq}
 use lib.Pow.{pow-add, pow-mono}
 use lib.IntN.{ℤ, pos, negsuc, natAbs, _+ℤ_, _-ℤ_, _*ℤ_}
-use Rattle.exact.specs.Meaning.Number.{Ω, ints, mulQ, negQ, conjQ, omega′, omega^}
+use Rattle.exact.specs.Meaning.Number.{Ω, ints, Sized, mulQ, negQ, conjQ, omega′, omega^}
 use Rattle.exact.specs.Meaning.Triple.{Triple, squares, Unitary}
 use Rattle.exact.specs.Algebra.Ring.{ints-laws}
 use Rattle.exact.specs.Algebra.Solver.{con, _⊕_, _⊗_, _⊝_, exprs, solve, ring₁, ring₂}
 use Rattle.exact.specs.Algebra.Omega.{omegas-laws, X₀, X₁, parts}
 use Rattle.view.specs.Meaning.Surd.{Surd, even, over, real, imaginary}
-use Rattle.view.specs.Meaning.Outcome.{CoefficientsFit}
-use Rattle.view.specs.declared.number.Number.{Number}
-
--- what a machine's four numbers stand for
-abbrev pub ring : Number → Ω
-ring x = record { a = x .a; b = x .b; c = x .c; d = x .d }
 
 -- the squares' sum
 unfoldable pub size : Ω → ℕ
@@ -86,13 +80,12 @@ positive m n h = omega arith
 root-le : (n m : ℕ) → n * n ≤ m * m → n ≤ m
 root-le n m h = le-of-suc-le-suc (lt-of-not-le (λ (g : suc m ≤ n). not-le-of-lt (lt-of-le-of-lt (mul-le-mul-left m (le-of-lt g)) (mul-lt-mul-of-pos-right g (positive m n g))) h))
 
--- each coefficient is within document 01's limit
-pub coefficients : (x : Ω) → size x ≤ 2 ^ 60 → CoefficientsFit x
+pub coefficients : (x : Ω) → size x ≤ 2 ^ 60 → Sized (2 ^ 30) x
 coefficients x h = record {
-  a-fits = root-le (natAbs (x .a)) (2 ^ 30) (omega (arith, size-is x));
-  b-fits = root-le (natAbs (x .b)) (2 ^ 30) (omega (arith, size-is x));
-  c-fits = root-le (natAbs (x .c)) (2 ^ 30) (omega (arith, size-is x));
-  d-fits = root-le (natAbs (x .d)) (2 ^ 30) (omega (arith, size-is x));
+  a-small = root-le (natAbs (x .a)) (2 ^ 30) (omega (arith, size-is x));
+  b-small = root-le (natAbs (x .b)) (2 ^ 30) (omega (arith, size-is x));
+  c-small = root-le (natAbs (x .c)) (2 ^ 30) (omega (arith, size-is x));
+  d-small = root-le (natAbs (x .d)) (2 ^ 30) (omega (arith, size-is x));
 }
 
 -- ---- A and B

@@ -1,8 +1,9 @@
 // Job 7, the numeric view: the four entries of a checked triple as eight f64. It stands for `to_complex_matrix`.
-ghost use Rattle.view.specs.Meaning.Outcome.{quad, Checked, Outcome};
+ghost use Rattle.view.specs.Meaning.Outcome.{ViewOutcome};
 use matrix::View;
 use matrix::entries;
 use matrix::nils;
+use ring::ZOmega;
 
 mod float;
 pub mod matrix;
@@ -13,31 +14,21 @@ pub struct Answer {
     pub view: View,
 }
 
-// The answer to an input that the check of job 1 gave this refusal, 0 where it accepted.
-pub fn answered(
-    refusal: u8,
-    k: i64,
-    n: u8,
-    za: i64,
-    zb: i64,
-    zc: i64,
-    zd: i64,
-    wa: i64,
-    wb: i64,
-    wc: i64,
-    wd: i64,
-) -> Answer
-    requires { ⌜ Checked k n (quad za zb zc zd) (quad wa wb wc wd) refusal ⌝ }
-    ensures { λ r. ⌜ Outcome k n (quad za zb zc zd) (quad wa wb wc wd) r ⌝ }
+// Job 7.
+pub fn view(k: i64, n: u8, z: ZOmega, w: ZOmega) -> Answer
+    ensures { λ r. ⌜ ViewOutcome k n z w r ⌝ }
 {
+    let refusal = unitary::check(k, z, w);
     if refusal != exact::ACCEPTED {
+        let none = nils();
         return Answer {
             refusal: refusal,
-            view: nils(),
+            view: none,
         };
     }
+    let shown = entries(k as u32, n, z, w);
     Answer {
-        refusal: refusal,
-        view: entries(k, n, za, zb, zc, zd, wa, wb, wc, wd),
+        refusal: 0,
+        view: shown,
     }
 }

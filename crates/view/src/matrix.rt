@@ -2,9 +2,13 @@
 ghost use mathlib.Core.Path.{_≡_};
 ghost use Prim.Native.Nat.{_≤_};
 ghost use Rattle.exact.specs.Meaning.Triple.{Unitary};
-ghost use Rattle.view.specs.Meaning.Outcome.{quad, triple, ExponentFits, Viewed, nothing};
-ghost use Rattle.view.specs.Size.{ring};
-use crate::number::Number;
+ghost use Rattle.ring.specs.Number.{quad};
+ghost use Rattle.view.specs.Meaning.Outcome.{Viewed, nothing};
+use crate::number::conj;
+use crate::number::mul_by_omega_power;
+use crate::number::neg;
+use crate::number::parts;
+use ring::ZOmega;
 
 // Row by row: `re` and `im` with i and j are the real and the imaginary part of the entry in row i and column j.
 pub struct View {
@@ -33,19 +37,19 @@ pub fn nils() -> View
     }
 }
 
-fn shown(k: u32, n: u8, z: Number, w: Number) -> View
-    requires { ⌜ (k ≤ 60) × Unitary (record { k = k; n = n; z = ring z; w = ring w }) ⌝ }
-    ensures { λ r. ⌜ Viewed (record { k = k; n = n; z = ring z; w = ring w }) r ⌝ }
+pub fn entries(k: u32, n: u8, z: ZOmega, w: ZOmega) -> View
+    requires { ⌜ (k ≤ 60) × Unitary (record { k = k; n = n; z = quad z; w = quad w }) ⌝ }
+    ensures { λ r. ⌜ Viewed (record { k = k; n = n; z = quad z; w = quad w }) r ⌝ }
 {
-    let zc = z.conj();
-    let zu = zc.mul_by_omega_power(n);
-    let wc = w.conj();
-    let wu = wc.mul_by_omega_power(n);
-    let wm = wu.neg();
-    let p = z.parts(k);
-    let q = wm.parts(k);
-    let r = w.parts(k);
-    let s = zu.parts(k);
+    let zc = conj(z);
+    let zu = mul_by_omega_power(zc, n);
+    let wc = conj(w);
+    let wu = mul_by_omega_power(wc, n);
+    let wm = neg(wu);
+    let p = parts(z, k);
+    let q = parts(wm, k);
+    let r = parts(w, k);
+    let s = parts(zu, k);
     View {
         re00: p.re,
         im00: p.im,
@@ -56,34 +60,4 @@ fn shown(k: u32, n: u8, z: Number, w: Number) -> View
         re11: s.re,
         im11: s.im,
     }
-}
-
-pub fn entries(
-    k: i64,
-    n: u8,
-    za: i64,
-    zb: i64,
-    zc: i64,
-    zd: i64,
-    wa: i64,
-    wb: i64,
-    wc: i64,
-    wd: i64,
-) -> View
-    requires { ⌜ ExponentFits k × Unitary (triple k n (quad za zb zc zd) (quad wa wb wc wd)) ⌝ }
-    ensures { λ r. ⌜ Viewed (triple k n (quad za zb zc zd) (quad wa wb wc wd)) r ⌝ }
-{
-    let z = Number {
-        a: za,
-        b: zb,
-        c: zc,
-        d: zd,
-    };
-    let w = Number {
-        a: wa,
-        b: wb,
-        c: wc,
-        d: wd,
-    };
-    shown(k as u32, n, z, w)
 }

@@ -1,83 +1,65 @@
-// Ring numbers: conjugation, powers of omega, and the two parts of a number over a power of root two.
+// Ring numbers: the negative, the conjugate, times a power of omega, and the two parts of a number over a power of root two.
 ghost use mathlib.Core.Path.{_≡_};
 ghost use Prim.Native.Nat.{_≤_, _^_};
-ghost use Rattle.exact.specs.Meaning.Number.{ints, mulQ, negQ, conjQ, omega′, omega^};
+ghost use Rattle.exact.specs.Meaning.Number.{ints, mulQ, negQ, conjQ, omega^};
+ghost use Rattle.ring.specs.Number.{quad};
 ghost use Rattle.view.specs.Meaning.Outcome.{Entry};
-ghost use Rattle.view.specs.Size.{ring, size};
+ghost use Rattle.view.specs.Size.{size};
 use crate::float::over;
-
-// a·omega^3 + b·omega^2 + c·omega + d.
-pub struct Number {
-    pub a: i64,
-    pub b: i64,
-    pub c: i64,
-    pub d: i64,
-}
+use ring::ZOmega;
 
 pub struct Complex {
     pub re: f64,
     pub im: f64,
 }
 
-impl Number {
-    pub fn neg(self) -> Self
-        requires { ⌜ size (ring self) ≤ 2 ^ 60 ⌝ }
-        ensures { λ r. ⌜ ring r ≡ negQ ints (ring self) ⌝ }
-    {
-        Self {
-            a: -self.a,
-            b: -self.b,
-            c: -self.c,
-            d: -self.d,
-        }
-    }
+pub fn neg(x: ZOmega) -> ZOmega
+    requires { ⌜ size (quad x) ≤ 2 ^ 60 ⌝ }
+    ensures { λ r. ⌜ quad r ≡ negQ ints (quad x) ⌝ }
+{
+    let a = x.a;
+    let b = x.b;
+    let c = x.c;
+    let d = x.d;
+    ZOmega { a: -a, b: -b, c: -c, d: -d }
+}
 
-    pub fn conj(self) -> Self
-        requires { ⌜ size (ring self) ≤ 2 ^ 60 ⌝ }
-        ensures { λ r. ⌜ ring r ≡ conjQ ints (ring self) ⌝ }
-    {
-        Self {
-            a: -self.c,
-            b: -self.b,
-            c: -self.a,
-            d: self.d,
-        }
-    }
+pub fn conj(x: ZOmega) -> ZOmega
+    requires { ⌜ size (quad x) ≤ 2 ^ 60 ⌝ }
+    ensures { λ r. ⌜ quad r ≡ conjQ ints (quad x) ⌝ }
+{
+    let a = x.a;
+    let b = x.b;
+    let c = x.c;
+    let d = x.d;
+    ZOmega { a: -c, b: -b, c: -a, d: d }
+}
 
-    pub fn mul_by_omega(self) -> Self
-        requires { ⌜ size (ring self) ≤ 2 ^ 60 ⌝ }
-        ensures { λ r. ⌜ ring r ≡ mulQ ints (omega′ ints) (ring self) ⌝ }
-    {
-        Self {
-            a: self.b,
-            b: self.c,
-            c: self.d,
-            d: -self.a,
-        }
+pub fn mul_by_omega_power(x: ZOmega, n: u8) -> ZOmega
+    requires { ⌜ size (quad x) ≤ 2 ^ 60 ⌝ }
+    ensures { λ r. ⌜ quad r ≡ mulQ ints (quad x) (omega^ n) ⌝ }
+{
+    let m = n % 8;
+    let mut y = x;
+    let mut i: u8 = 0;
+    while i < m {
+        y = y.mul_by_omega();
+        i += 1;
     }
+    y
+}
 
-    pub fn mul_by_omega_power(self, n: u8) -> Self
-        requires { ⌜ size (ring self) ≤ 2 ^ 60 ⌝ }
-        ensures { λ r. ⌜ ring r ≡ mulQ ints (ring self) (omega^ n) ⌝ }
-    {
-        let m = n % 8;
-        let mut x = self;
-        let mut i: u8 = 0;
-        while i < m {
-            x = x.mul_by_omega();
-            i += 1;
-        }
-        x
-    }
-
-    // The parts over root two to the k.
-    pub fn parts(self, k: u32) -> Complex
-        requires { ⌜ (k ≤ 60) × (size (ring self) ≤ 2 ^ k) ⌝ }
-        ensures { λ r. ⌜ Entry k (ring self) (r .re) (r .im) ⌝ }
-    {
-        Complex {
-            re: over(k, self.d, self.c - self.a),
-            im: over(k, self.b, self.c + self.a),
-        }
+// The parts over root two to the k.
+pub fn parts(x: ZOmega, k: u32) -> Complex
+    requires { ⌜ (k ≤ 60) × (size (quad x) ≤ 2 ^ k) ⌝ }
+    ensures { λ r. ⌜ Entry k (quad x) (r .re) (r .im) ⌝ }
+{
+    let a = x.a;
+    let b = x.b;
+    let c = x.c;
+    let d = x.d;
+    Complex {
+        re: over(k, d, c - a),
+        im: over(k, b, c + a),
     }
 }
