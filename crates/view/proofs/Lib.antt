@@ -10,3 +10,4 @@ mod Whole
 mod Zero
 mod Numbers
 mod Branches
+mod Job
