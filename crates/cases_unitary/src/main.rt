@@ -67,15 +67,60 @@ fn fill_ht(buf: &mut [u8; 244]) {
 }
 
 fn triples() {
-    let zero = ZOmega { a: 0, b: 0, c: 0, d: 0 };
-    let one = ZOmega { a: 0, b: 0, c: 0, d: 1 };
-    let root = ZOmega { a: -1, b: 0, c: 1, d: 0 };
-    let top = ZOmega { a: 0, b: 0, c: 0, d: 1073741824 };
-    let over = ZOmega { a: 0, b: 0, c: 0, d: 1073741825 };
-    let low = ZOmega { a: -1073741824, b: 0, c: 0, d: 0 };
-    let under = ZOmega { a: -1073741825, b: 0, c: 0, d: 0 };
-    let crossed = ZOmega { a: 0, b: 0, c: 1, d: 1 };
-    let wide = ZOmega { a: 9223372036854775807, b: 0, c: 0, d: 0 };
+    let zero = ZOmega {
+        a: 0,
+        b: 0,
+        c: 0,
+        d: 0,
+    };
+    let one = ZOmega {
+        a: 0,
+        b: 0,
+        c: 0,
+        d: 1,
+    };
+    let root = ZOmega {
+        a: -1,
+        b: 0,
+        c: 1,
+        d: 0,
+    };
+    let top = ZOmega {
+        a: 0,
+        b: 0,
+        c: 0,
+        d: 1073741824,
+    };
+    let over = ZOmega {
+        a: 0,
+        b: 0,
+        c: 0,
+        d: 1073741825,
+    };
+    let low = ZOmega {
+        a: -1073741824,
+        b: 0,
+        c: 0,
+        d: 0,
+    };
+    let under = ZOmega {
+        a: -1073741825,
+        b: 0,
+        c: 0,
+        d: 0,
+    };
+    let crossed = ZOmega {
+        a: 0,
+        b: 0,
+        c: 1,
+        d: 1,
+    };
+    let wide = ZOmega {
+        a: 9223372036854775807,
+        b: 0,
+        c: 0,
+        d: 0,
+    };
     reduced(b"identity", 0, 0, one, zero);
     reduced(b"k=60", 60, 0, top, zero);
     reduced(b"k=60, n=255", 60, 255, low, zero);

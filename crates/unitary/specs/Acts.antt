@@ -110,9 +110,10 @@ module _ (t : DOmegaUnitary) (g : Good t) (h : t .k ≤ deepest) where
 
   -- and so are those after H
   pub h-small : (r : DOmegaUnitary) → triple r ≡ modEight (act H (triple t)) → Small (r .z) × Small (r .w)
-  h-small r e =
-      ( record { sized = subst (Sized (2 ^ 31)) (sym (ap (λ u. u .z) e)) (sized-le (omega arith) (add-sized (2 ^ 30) (2 ^ 30) (quad (t .z)) (quad (t .w)) z-sized′ w-sized′)) },
-        record { sized = subst (Sized (2 ^ 31)) (sym (ap (λ u. u .w) e)) (sized-le (omega arith) (add-sized (2 ^ 30) (2 ^ 30) (quad (t .z)) (negQ ints (quad (t .w))) z-sized′ (neg-sized (2 ^ 30) (quad (t .w)) w-sized′))) })
+  h-small r e = (
+    record { sized = subst (Sized (2 ^ 31)) (sym (ap (λ u. u .z) e)) (sized-le (omega arith) (add-sized (2 ^ 30) (2 ^ 30) (quad (t .z)) (quad (t .w)) z-sized′ w-sized′)) },
+    record { sized = subst (Sized (2 ^ 31)) (sym (ap (λ u. u .w) e)) (sized-le (omega arith) (add-sized (2 ^ 30) (2 ^ 30) (quad (t .z)) (negQ ints (quad (t .w))) z-sized′ (neg-sized (2 ^ 30) (quad (t .w)) w-sized′))) },
+  )
 
 -- ---- letters but H keep divisibility
 and-comm : (p q : Bool) → p && q ≡ q && p

@@ -15,7 +15,6 @@ ghost use Rattle.unitary.specs.Outcomes.{InCoefficients, Answers, Reduce
 ghost use Rattle.unitary.specs.Checks.{Decides, UnitaryAt, CheckOutcome, bothTest};
 ghost use Rattle.unitary.specs.Letters.{Scanned};
 ghost use Rattle.unitary.specs.Acts.{Good, Acted, Both};
-
 use ring::ZOmega;
 
 pub struct DOmegaUnitary {
@@ -117,18 +116,48 @@ pub fn check(k: i64, z: ZOmega, w: ZOmega) -> u8
 fn nothing() -> DOmegaUnitary
     ensures { λ r. ⌜ r ≡ none ⌝ }
 {
-    let z = ZOmega { a: 0, b: 0, c: 0, d: 0 };
-    let w = ZOmega { a: 0, b: 0, c: 0, d: 0 };
-    DOmegaUnitary { z: z, w: w, n: 0, k: 0 }
+    let z = ZOmega {
+        a: 0,
+        b: 0,
+        c: 0,
+        d: 0,
+    };
+    let w = ZOmega {
+        a: 0,
+        b: 0,
+        c: 0,
+        d: 0,
+    };
+    DOmegaUnitary {
+        z: z,
+        w: w,
+        n: 0,
+        k: 0,
+    }
 }
 
 impl DOmegaUnitary {
     pub fn identity() -> DOmegaUnitary
         ensures { λ r. ⌜ triple r ≡ identity ⌝ }
     {
-        let z = ZOmega { a: 0, b: 0, c: 0, d: 1 };
-        let w = ZOmega { a: 0, b: 0, c: 0, d: 0 };
-        DOmegaUnitary { z: z, w: w, n: 0, k: 0 }
+        let z = ZOmega {
+            a: 0,
+            b: 0,
+            c: 0,
+            d: 1,
+        };
+        let w = ZOmega {
+            a: 0,
+            b: 0,
+            c: 0,
+            d: 0,
+        };
+        DOmegaUnitary {
+            z: z,
+            w: w,
+            n: 0,
+            k: 0,
+        }
     }
 
     // Whether root two divides both z and w.
@@ -152,7 +181,12 @@ impl DOmegaUnitary {
         let k = self.k;
         let new_z = z.mul_by_inv_sqrt2();
         let new_w = w.mul_by_inv_sqrt2();
-        DOmegaUnitary { z: new_z, w: new_w, n: n, k: k - 1 }
+        DOmegaUnitary {
+            z: new_z,
+            w: new_w,
+            n: n,
+            k: k - 1,
+        }
     }
 
     // The reduced triple of the same matrix, n from 0 to 7.
@@ -164,7 +198,12 @@ impl DOmegaUnitary {
         let w = self.w;
         let n = self.n;
         let k = self.k;
-        let mut t = DOmegaUnitary { z: z, w: w, n: n % 8, k: k };
+        let mut t = DOmegaUnitary {
+            z: z,
+            w: w,
+            n: n % 8,
+            k: k,
+        };
         while t.k > 0 && t.divisible() {
             t = t.lowered();
         }
@@ -180,7 +219,12 @@ impl DOmegaUnitary {
         let n = self.n;
         let k = self.k;
         let new_w = w.mul_by_omega();
-        DOmegaUnitary { z: z, w: new_w, n: (n + 1) % 8, k: k }
+        DOmegaUnitary {
+            z: z,
+            w: new_w,
+            n: (n + 1) % 8,
+            k: k,
+        }
     }
 
     pub fn mul_by_s_from_left(self) -> DOmegaUnitary
@@ -193,7 +237,12 @@ impl DOmegaUnitary {
         let k = self.k;
         let half_w = w.mul_by_omega();
         let new_w = half_w.mul_by_omega();
-        DOmegaUnitary { z: z, w: new_w, n: (n + 2) % 8, k: k }
+        DOmegaUnitary {
+            z: z,
+            w: new_w,
+            n: (n + 2) % 8,
+            k: k,
+        }
     }
 
     pub fn mul_by_x_from_left(self) -> DOmegaUnitary
@@ -204,7 +253,12 @@ impl DOmegaUnitary {
         let w = self.w;
         let n = self.n;
         let k = self.k;
-        DOmegaUnitary { z: w, w: z, n: (n + 4) % 8, k: k }
+        DOmegaUnitary {
+            z: w,
+            w: z,
+            n: (n + 4) % 8,
+            k: k,
+        }
     }
 
     pub fn mul_by_w_from_left(self) -> DOmegaUnitary
@@ -217,7 +271,12 @@ impl DOmegaUnitary {
         let k = self.k;
         let new_z = z.mul_by_omega();
         let new_w = w.mul_by_omega();
-        DOmegaUnitary { z: new_z, w: new_w, n: (n + 2) % 8, k: k }
+        DOmegaUnitary {
+            z: new_z,
+            w: new_w,
+            n: (n + 2) % 8,
+            k: k,
+        }
     }
 
     // The exponent one higher: it is not reduced here.
@@ -231,7 +290,12 @@ impl DOmegaUnitary {
         let k = self.k;
         let new_z = z.add(w);
         let new_w = z.sub(w);
-        DOmegaUnitary { z: new_z, w: new_w, n: (n + 4) % 8, k: k + 1 }
+        DOmegaUnitary {
+            z: new_z,
+            w: new_w,
+            n: (n + 4) % 8,
+            k: k + 1,
+        }
     }
 }
 
@@ -242,11 +306,22 @@ pub fn reduce(k: i64, n: u8, z: ZOmega, w: ZOmega) -> Checked
     let refusal = check(k, z, w);
     if refusal != exact::ACCEPTED {
         let matrix = nothing();
-        return Checked { refusal: refusal, matrix: matrix };
+        return Checked {
+            refusal: refusal,
+            matrix: matrix,
+        };
     }
-    let t = DOmegaUnitary { z: z, w: w, n: n, k: k as u8 };
+    let t = DOmegaUnitary {
+        z: z,
+        w: w,
+        n: n,
+        k: k as u8,
+    };
     let matrix = t.reduce_denomexp();
-    Checked { refusal: 0, matrix: matrix }
+    Checked {
+        refusal: 0,
+        matrix: matrix,
+    }
 }
 
 // ---- words
@@ -320,12 +395,20 @@ pub fn from_gates(word: &[u8]) -> FromGates
 {
     if word.len() > exact::LONGEST {
         let matrix = nothing();
-        return FromGates { refusal: exact::LONG, place: 0, matrix: matrix };
+        return FromGates {
+            refusal: exact::LONG,
+            place: 0,
+            matrix: matrix,
+        };
     }
     let bad = first_outside(word);
     if bad < word.len() {
         let matrix = nothing();
-        return FromGates { refusal: exact::LETTER, place: bad, matrix: matrix };
+        return FromGates {
+            refusal: exact::LETTER,
+            place: bad,
+            matrix: matrix,
+        };
     }
     let mut t = DOmegaUnitary::identity();
     let mut i = word.len();
@@ -335,8 +418,16 @@ pub fn from_gates(word: &[u8]) -> FromGates
         t = t.mul_by_letter_from_left(g);
         if t.k > 60 {
             let matrix = nothing();
-            return FromGates { refusal: exact::DEEP, place: i, matrix: matrix };
+            return FromGates {
+                refusal: exact::DEEP,
+                place: i,
+                matrix: matrix,
+            };
         }
     }
-    FromGates { refusal: 0, place: 0, matrix: t }
+    FromGates {
+        refusal: 0,
+        place: 0,
+        matrix: t,
+    }
 }

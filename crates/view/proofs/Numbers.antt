@@ -1,13 +1,13 @@
 -- Powers of omega turn by turn, and an exponent from 0 to 60 as the machine casts it. Assumes nothing.
-use mathlib.Core.Path.{_≡_, sym, _∙_, ap, subst}
-use Prim.Native.Nat.{ℕ, _+_, _%_, _^_, _≤_}
+use mathlib.Core.Path.{_≡_, sym, _∙_, ap}
+use Prim.Native.Nat.{ℕ, _+_, _%_, _^_}
 use native.Mathlib.Numerals.{add-one}
 use native.Mathlib.Omega.{arith}
 use lib.Dec.{T}
 use lib.IntN.{ℤ, pos, negℤ, natAbs, _-ℤ_, +ℤ-idl}
 use lib.Signed.{nonNeg, yes-nonNeg}
-use mir.Syntax.{w32, w64}
-use mir.Val.{Fits, SFits}
+use mir.Syntax.{w32}
+use mir.Val.{Fits}
 use Rattle.exact.specs.Meaning.Number.{Ω, ints, omegas, mulQ, omega′, omega^}
 use Rattle.exact.specs.Algebra.Solver.{_⊗_, ring₃}
 use Rattle.exact.specs.Algebra.Omega.{omegas-laws}

@@ -21,7 +21,12 @@ pub fn neg(x: ZOmega) -> ZOmega
     let b = x.b;
     let c = x.c;
     let d = x.d;
-    ZOmega { a: -a, b: -b, c: -c, d: -d }
+    ZOmega {
+        a: -a,
+        b: -b,
+        c: -c,
+        d: -d,
+    }
 }
 
 pub fn conj(x: ZOmega) -> ZOmega
@@ -32,7 +37,12 @@ pub fn conj(x: ZOmega) -> ZOmega
     let b = x.b;
     let c = x.c;
     let d = x.d;
-    ZOmega { a: -c, b: -b, c: -a, d: d }
+    ZOmega {
+        a: -c,
+        b: -b,
+        c: -a,
+        d: d,
+    }
 }
 
 pub fn mul_by_omega_power(x: ZOmega, n: u8) -> ZOmega

@@ -32,7 +32,7 @@ sub-result c = let s = c .before .before .before .before .before .before in cros
 
 returns-2 : tie.Need-returns-2
 returns-2 c =
-    let s = c .before .before .before .before .before .before in 
+    let s = c .before .before .before .before .before .before in
     crosses-decide (s .args .k) (s .args .z) (s .args .w) (s .pre .0) (s .pre .1) _ _ (c .before .crosses .ensures) (c .crosses2 .ensures)
     (squares-agree (s .args .k) (s .args .z) (s .args .w) (s .pre .0) (s .pre .1) _ _ _ (c .before .before .before .before .before .power-of-two .ensures) (c .before .before .before .before .squares .ensures) (c .before .before .before .squares2 .ensures) (c .before .before .if1 .left))
 

@@ -23,7 +23,7 @@ sub-t12 c = let s = c .before .before .before .before in need₁ (2 ^ 31) (s .ar
 
 returns : tie.Need-returns
 returns c =
-    let s = c .before .before .before .before in 
+    let s = c .before .before .before .before in
     quad-path
     (gives₁ (2 ^ 31) (s .args .self) (s .pre .sized) (halved (arg 1 ∸ arg 3)) tt)
     (gives₁ (2 ^ 31) (s .args .self) (s .pre .sized) (halved (arg 2 ∔ arg 0)) tt)

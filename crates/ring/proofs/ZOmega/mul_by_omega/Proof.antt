@@ -14,7 +14,7 @@ sub-t6 c = let s = c .before .before .before .before in need₁ (2 ^ 31) (s .arg
 
 returns : tie.Need-returns
 returns c =
-    let s = c .before .before .before .before in 
+    let s = c .before .before .before .before in
     quad-path
     (gives₁ (2 ^ 31) (s .args .self) (s .pre .sized) (arg 1) tt)
     (gives₁ (2 ^ 31) (s .args .self) (s .pre .sized) (arg 2) tt)

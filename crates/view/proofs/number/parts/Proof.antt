@@ -8,7 +8,7 @@ use Rattle.exact.specs.Whole.Machine.{held, arg, _∔_, _∸_}
 use Rattle.ring.specs.Number.{quad}
 use Rattle.ring.specs.Code.{need₁, gives₁}
 use Rattle.ring.specs.declared.ZOmega.{ZOmega}
-use Rattle.view.specs.Meaning.Surd.{Surd, over, real, imaginary}
+use Rattle.view.specs.Meaning.Surd.{over, real, imaginary}
 use Rattle.view.specs.Meaning.Near.{Shows}
 use Rattle.view.specs.Size.{size, Fit, coefficients, real-fit, imaginary-fit, at-most-60}
 use Rattle.view.proofs.number.parts.Statement.{statement}
