@@ -1,10 +1,13 @@
 -- `entries` meets its contract: conjugation, omega^n and the minus keep the size, and give the matrix's entries. Assumes nothing.
 use mathlib.Core.Path.{subst, ap, _∙_}
 use Prim.Native.Nat.{_^_}
+use lib.Dec.{lit≤}
 use Rattle.exact.specs.Meaning.Number.{ints, mulQ, negQ, omega^}
+use Rattle.exact.specs.Algebra.Omega.{omegas-laws}
+use Rattle.exact.specs.Matrices.Sizes.{sized-le}
 use Rattle.ring.specs.Number.{quad}
 use Rattle.view.specs.Meaning.Outcome.{Entry}
-use Rattle.view.specs.Size.{small-neg, small-conj, small-power, z-size, w-size, at-most-60}
+use Rattle.view.specs.Size.{coefficients, small-neg, small-conj, small-power, z-size, w-size, at-most-60}
 use Rattle.view.proofs.matrix.entries.Statement.{statement}
 use Rattle.view.proofs.matrix.entries.Tie as tie
 
@@ -26,13 +29,19 @@ mul-by-omega-power-requires-2 c κs =
     let d = c .before .before .before in
     small-conj (quad (d .args .w)) (quad (c .conj2 .result)) (2 ^ 60) (at-most-60 (d .pre .0) (w-size (d .pre .1))) (c .conj2 .ensures)
 
-neg-requires : tie.Need-neg-requires
-neg-requires c κs =
+sub-requires : tie.Need-sub-requires
+sub-requires c κs =
     let d = c .before .before .before .before in
     let y = quad (c .before .conj2 .result) in
-    small-power y (quad (c .mul-by-omega-power2 .result)) (2 ^ 60)
-    (small-conj (quad (d .args .w)) y (2 ^ 60) (at-most-60 (d .pre .0) (w-size (d .pre .1))) (c .before .conj2 .ensures))
-    (d .args .n) (c .mul-by-omega-power2 .ensures)
+    let u = quad (c .mul-by-omega-power2 .result) in (
+      record { sized = record { a-small = lit≤ tt; b-small = lit≤ tt; c-small = lit≤ tt; d-small = lit≤ tt } },
+      record {
+        sized =
+            sized-le (lit≤ tt)
+            (coefficients u
+            (small-power y u (2 ^ 60) (small-conj (quad (d .args .w)) y (2 ^ 60) (at-most-60 (d .pre .0) (w-size (d .pre .1))) (c .before .conj2 .ensures)) (d .args .n) (c .mul-by-omega-power2 .ensures)));
+      },
+    )
 
 parts-requires : tie.Need-parts-requires
 parts-requires c κs =
@@ -47,9 +56,9 @@ parts-requires-2 c κs =
     let y = quad (b .before .before .conj2 .result) in
     let u = quad (b .before .mul-by-omega-power2 .result) in (
       d .pre .0,
-      small-neg u (quad (b .neg .result)) m
+      small-neg u (quad (b .sub .result)) m
           (small-power y u m (small-conj (quad (d .args .w)) y m (w-size (d .pre .1)) (b .before .before .conj2 .ensures)) (d .args .n) (b .before .mul-by-omega-power2 .ensures))
-          (b .neg .ensures),
+          (b .sub .ensures ∙ omegas-laws .zero-add (negQ ints u)),
     )
 
 parts-requires-3 : tie.Need-parts-requires-3
@@ -81,7 +90,7 @@ returns c =
       p = p .parts .ensures;
       q =
           subst (λ x. Entry k x (r .re) (r .im))
-          (b .neg .ensures ∙ ap (negQ ints) (b .before .mul-by-omega-power2 .ensures ∙ ap (λ y. mulQ ints y u) (b .before .before .conj2 .ensures)))
+          (b .sub .ensures ∙ omegas-laws .zero-add (negQ ints (quad (b .before .mul-by-omega-power2 .result))) ∙ ap (negQ ints) (b .before .mul-by-omega-power2 .ensures ∙ ap (λ y. mulQ ints y u) (b .before .before .conj2 .ensures)))
           (c .before .before .parts2 .ensures);
       r = c .before .parts3 .ensures;
       s = subst (λ x. Entry k x (s .re) (s .im)) (a .mul-by-omega-power .ensures ∙ ap (λ y. mulQ ints y u) (a .before .conj .ensures)) (c .parts4 .ensures);
@@ -95,7 +104,7 @@ entries-spec =
     mul-by-omega-power-requires
     conj-requires-2
     mul-by-omega-power-requires-2
-    neg-requires
+    sub-requires
     parts-requires
     parts-requires-2
     parts-requires-3
