@@ -86,7 +86,8 @@ fn is_unitary(k: u8, z: ZOmega, w: ZOmega) -> bool
     }
     let z_crosses = z.crosses();
     let w_crosses = w.crosses();
-    z_crosses == 0 - w_crosses
+    let wanted = 0 - w_crosses;
+    z_crosses == wanted
 }
 
 // Refusals 3, 4 and 5 in that order, or 0.
@@ -218,10 +219,10 @@ impl DOmegaUnitary {
         let w = self.w;
         let n = self.n;
         let k = self.k;
-        let new_w = w.mul_by_omega();
+        let turned_w = w.mul_by_omega();
         DOmegaUnitary {
             z: z,
-            w: new_w,
+            w: turned_w,
             n: (n + 1) % 8,
             k: k,
         }
@@ -413,17 +414,18 @@ pub fn from_gates(word: &[u8]) -> FromGates
     let mut t = DOmegaUnitary::identity();
     let mut i = word.len();
     while i > 0 {
-        let g = word[i - 1];
-        i -= 1;
+        let at = i - 1;
+        let g = word[at];
         t = t.mul_by_letter_from_left(g);
         if t.k > 60 {
             let matrix = nothing();
             return FromGates {
                 refusal: exact::DEEP,
-                place: i,
+                place: at,
                 matrix: matrix,
             };
         }
+        i = at;
     }
     FromGates {
         refusal: 0,

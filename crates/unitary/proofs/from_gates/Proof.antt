@@ -38,14 +38,11 @@ identity-requires c κs = tt
 loop-holds : tie.Need-loop-holds Inv-loop μ-loop
 loop-holds c = (omega arith, read-start (now (c .before .before .before .before .before .args .word)) (c .identity .result) (c .identity .ensures))
 
-sub-g : tie.Need-sub-g Inv-loop μ-loop
-sub-g c = omega arith
+sub-at : tie.Need-sub-at Inv-loop μ-loop
+sub-at c = omega arith
 
 shared-slice-read-g : tie.Need-shared-slice-read-g Inv-loop μ-loop
 shared-slice-read-g c = omega arith
-
-sub-i : tie.Need-sub-i Inv-loop μ-loop
-sub-i c = omega arith
 
 mul-by-letter-from-left-requires : tie.Need-mul-by-letter-from-left-requires Inv-loop μ-loop
 mul-by-letter-from-left-requires c κs = let r = c .before .before .loop .inv .1 in (r .good, r .few)
@@ -82,9 +79,8 @@ from-gates-spec =
     returns-2
     identity-requires
     loop-holds
-    sub-g
+    sub-at
     shared-slice-read-g
-    sub-i
     mul-by-letter-from-left-requires
     nothing-requires-3
     returns-3

@@ -27,8 +27,8 @@ crosses-requires c κs = search needs
 crosses-requires-2 : tie.Need-crosses-requires-2
 crosses-requires-2 c κs = search needs
 
-sub-result : tie.Need-sub-result
-sub-result c = let s = c .before .before .before .before .before .before in crosses-need (s .args .k) (s .args .z) (s .args .w) (s .pre .0) (s .pre .1) _ _ (c .before .crosses .ensures) (c .crosses2 .ensures)
+sub-wanted : tie.Need-sub-wanted
+sub-wanted c = let s = c .before .before .before .before .before .before in crosses-need (s .args .k) (s .args .z) (s .args .w) (s .pre .0) (s .pre .1) _ _ (c .before .crosses .ensures) (c .crosses2 .ensures)
 
 returns-2 : tie.Need-returns-2
 returns-2 c =
@@ -47,5 +47,5 @@ is-unitary-spec =
     returns
     crosses-requires
     crosses-requires-2
-    sub-result
+    sub-wanted
     returns-2)

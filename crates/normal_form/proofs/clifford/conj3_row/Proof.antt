@@ -1,0 +1,21 @@
+use Rattle.normal_form.specs.Tables.{conj3-row}
+use borrow.Author.Needs.{needs}
+use Rattle.normal_form.proofs.clifford.conj3_row.Statement.{statement}
+use Rattle.normal_form.proofs.clifford.conj3_row.Tie as tie
+use Rattle.normal_form.proofs.clifford.conj3_row.Reads as reads
+use Rattle.normal_form.proofs.clifford.conj3_row.Lts as lts
+
+-- src/clifford.rt:473:5
+mul-result : tie.Need-mul-result
+mul-result c = search needs
+
+-- src/clifford.rt:473:5
+array-copy-out-result : tie.Need-array-copy-out-result
+array-copy-out-result c = search needs
+
+-- src/clifford.rt:469:1
+returns : tie.Need-returns
+returns c = conj3-row (c .before .args .i) (c .before .pre)
+
+pub conj3-row-spec : {M : Type 1} → statement M
+conj3-row-spec = tie.close (tie.spec mul-result array-copy-out-result returns)

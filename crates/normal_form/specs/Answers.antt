@@ -1,0 +1,271 @@
+-- What is written for a reading is the answer to the letters read. Assumes nothing.
+use mathlib.Core.Path.{_≡_, refl, sym, _∙_, ap, ap₂, subst}
+use mathlib.Core.Bool.{Bool, true, false}
+use mathlib.Core.List.{List, [], _∷_, _++_, append-assoc, append-nil}
+use Prim.Native.Nat.{ℕ, zero, suc, _+_, _-_, _<_, _≤_}
+use native.Mathlib.Nat.{zero-add}
+use native.Mathlib.Numerals.{add-one}
+use native.Mathlib.Omega.{arith}
+use lib.ListN.{length, take, drop, getD, replicate, length-append, length-replicate}
+use lib.Seq.{take-suc, take-add, take-length}
+use Rattle.exact.specs.Meaning.Word.{Letter, I, H, S, X, W, byte, bytes, tees}
+use Rattle.exact.specs.Meaning.Normal as normal
+use Rattle.exact.specs.Meaning.Normal.{times}
+use Rattle.exact.specs.Meaning.Limits.{Accepted, Room}
+use Rattle.exact.specs.Cases.Letters.{lettersOf}
+use Rattle.exact.specs.Unique.Tails.{tees-append}
+use Rattle.normal_form.specs.declared.Letters.{Letters}
+use Rattle.normal_form.specs.declared.Letters.the-variants as Letters
+use Rattle.normal_form.specs.declared.Written.{Written}
+use Rattle.normal_form.specs.declared.clifford.Clifford.{Clifford}
+use Rattle.normal_form.specs.declared.reading.Reading.{Reading}
+use Rattle.normal_form.specs.declared.reading.Syllable.{Syllable}
+use Rattle.normal_form.specs.declared.writing.Ending.{Ending}
+use Rattle.normal_form.specs.Cliffords.{splitC}
+use Rattle.normal_form.specs.Readings.{State, syllable, prefix, prefix-tees, start, run, shape, spelled, normal, normal-of}
+use Rattle.normal_form.specs.Held.{syllableNumber, syllableWord, syllableOf, named, codes, Holds, count-is, count-few}
+use Rattle.normal_form.specs.Outcome.{Normalises, Shortens, Outside, Outcome, answered, Answered, room, accepted, handed, refused}
+use Rattle.normal_form.specs.Letters.{Inside, Scanned, spells}
+use Rattle.normal_form.specs.Put.{Put, put-more, put-length}
+use Rattle.normal_form.specs.Endings.{endWord, endSize, endingOf, end-length, end-tees, end-whole, textOf, text-less}
+
+-- ---- the answers of job 3, with the final W letters, and of job 5, without
+abbrev pub Answers : Bool → List Letter → List Letter → Type 0
+Answers true = Normalises
+Answers false = Shortens
+
+text-is : (u : List Letter) → normal.spell (shape u) ≡ textOf true (run start u)
+text-is u =
+    let st = run start u in
+    spelled st ∙ ap (λ x. prefix (st .lead) (st .stack) ++ x) (sym (end-whole (splitC (st .q))))
+
+normalises : (u : List Letter) → Normalises u (textOf true (run start u))
+normalises u = subst (Normalises u) (text-is u) (record { normal = normal u; same = normal-of u })
+
+pub answers : (phase : Bool) (u : List Letter) → Answers phase u (textOf phase (run start u))
+answers true u = normalises u
+answers false u =
+    record {
+      whole = textOf true (run start u);
+      phase-free = record { normal = normalises u .normal; less = text-less (run start u) };
+      same = normalises u .same;
+    }
+
+-- ---- the letters of codes
+abbrev pub codesWord : List ℕ → List Letter
+codesWord [] = []
+codesWord (c ∷ cs) = syllableWord (syllableOf c) ++ codesWord cs
+
+codesWord-append : (cs ds : List ℕ) → codesWord (cs ++ ds) ≡ codesWord cs ++ codesWord ds
+codesWord-append [] ds = refl
+codesWord-append (c ∷ cs) ds = ap (λ u. syllableWord (syllableOf c) ++ u) (codesWord-append cs ds) ∙ sym (append-assoc (syllableWord (syllableOf c)) (codesWord cs) (codesWord ds))
+
+one-code : (s : normal.Syllable) → codesWord (syllableNumber (named s) ∷ []) ≡ syllable s
+one-code normal.HT = refl
+one-code normal.SHT = refl
+
+codes-word : (b : Bool) (ss : List normal.Syllable) → codesWord (codes b ss) ≡ prefix b ss
+codes-word true [] = refl
+codes-word false [] = refl
+codes-word true (s ∷ ss) = codesWord-append (codes true ss) (syllableNumber (named s) ∷ []) ∙ ap₂ (λ u v. u ++ v) (codes-word true ss) (one-code s)
+codes-word false (s ∷ ss) = codesWord-append (codes false ss) (syllableNumber (named s) ∷ []) ∙ ap₂ (λ u v. u ++ v) (codes-word false ss) (one-code s)
+
+pub held-word : {items : List ℕ} {r : Reading} {st : State} → Holds items r st → codesWord (take (r .count) items) ≡ prefix (st .lead) (st .stack)
+held-word {items} {r} {st} h = ap codesWord (h .array .front) ∙ codes-word (st .lead) (st .stack)
+
+-- one code more
+pub codes-more : (items : List ℕ) (k : ℕ) → k < length items → codesWord (take (k + 1) items) ≡ codesWord (take k items) ++ syllableWord (syllableOf (getD items k 0))
+codes-more items k h =
+    ap codesWord (ap (λ n. take n items) (add-one k) ∙ take-suc items k 0 h)
+    ∙ codesWord-append (take k items) (getD items k 0 ∷ [])
+    ∙ ap (λ u. codesWord (take k items) ++ u) (append-nil (syllableWord (syllableOf (getD items k 0))))
+
+-- and still no more than all
+pub codes-room : (items : List ℕ) (k n : ℕ) → k < n → k < length items → length (codesWord (take k items)) + length (syllableWord (syllableOf (getD items k 0))) ≤ length (codesWord (take n items))
+codes-room items k n l h =
+    omega (arith, ap length (codes-more items k h), length-append (codesWord (take k items)) (syllableWord (syllableOf (getD items k 0))), whole, length-append (codesWord (take (k + 1) items)) (codesWord (take (n - (k + 1)) (drop (k + 1) items))))
+  where
+    sum : k + 1 + (n - (k + 1)) ≡ n
+    sum = omega arith
+
+    whole : length (codesWord (take n items)) ≡ length (codesWord (take (k + 1) items) ++ codesWord (take (n - (k + 1)) (drop (k + 1) items)))
+    whole = ap length (ap (λ m. codesWord (take m items)) (sym sum) ∙ ap codesWord (take-add (k + 1) (n - (k + 1)) items) ∙ codesWord-append (take (k + 1) items) (take (n - (k + 1)) (drop (k + 1) items)))
+
+-- ---- bytes
+pub bytes-append : (u v : List Letter) → bytes (u ++ v) ≡ bytes u ++ bytes v
+bytes-append [] v = refl
+bytes-append (l ∷ u) v = ap (λ x. byte l ∷ x) (bytes-append u v)
+
+pub bytes-length : (u : List Letter) → length (bytes u) ≡ length u
+bytes-length [] = refl
+bytes-length (l ∷ u) = ap suc (bytes-length u)
+
+-- ---- what is written for a reading
+pub record Writes (phase : Bool) (items : List ℕ) (r : Reading) (old : List ℕ) (n : Written) (new : List ℕ) : Type 0 where
+  pub writes : (st : State) → Holds items r st → Answered (textOf phase st) old n new
+
+module _ (phase : Bool) (items : List ℕ) (r : Reading) (old : List ℕ) (e : Ending) (k : e ≡ endingOf phase (r .tail)) where
+  end-is : {st : State} → Holds items r st → e ≡ endingOf phase (st .q)
+  end-is h = k ∙ ap (endingOf phase) (h .tail-is)
+
+  size-is : (st : State) → Holds items r st → length (textOf phase st) ≡ r .bytes + endSize e
+  size-is st h =
+      length-append (prefix (st .lead) (st .stack)) (endWord (endingOf phase (st .q)))
+      ∙ ap₂ (λ m n. m + n) (sym (h .bytes-is)) (ap (λ x. length (endWord x)) (sym (end-is h)) ∙ end-length e)
+
+  pub no-room : (n : ℕ) → n ≡ endSize e → length old < r .bytes + n → Writes phase items r old (refused Room 0) old
+  no-room n f l = record { writes = λ st h. room (omega (arith, size-is st h)) refl refl }
+
+  pub write-room : (st : State) → Holds items r st → (n : ℕ) → n ≡ endSize e → r .bytes + n ≤ length old → length (bytes (codesWord (take (r .count) items))) + endSize e ≤ length old
+  write-room st h n f l = omega (arith, bytes-length (codesWord (take (r .count) items)), ap length (held-word h), h .bytes-is)
+
+  pub written : (n : ℕ) (mid : List ℕ) (at : ℕ) (new : List ℕ) (last : ℕ) → n ≡ endSize e → r .bytes + n ≤ length old → Put old 0 (bytes (codesWord (take (r .count) items))) mid at → Put mid at (bytes (endWord e)) new last → Writes phase items r old (handed Accepted 0 (r .bytes + n) (r .count)) new
+  written n mid at new last f l p q = record { writes = λ st h. accepted (omega (arith, size-is st h)) (numbers st h) (content st h) }
+    where
+      spelled-bytes : (st : State) → Holds items r st → bytes (codesWord (take (r .count) items)) ++ bytes (endWord e) ≡ bytes (textOf phase st)
+      spelled-bytes st h =
+          ap₂ (λ x y. bytes x ++ bytes (endWord y)) (held-word h) (end-is h)
+          ∙ sym (bytes-append (prefix (st .lead) (st .stack)) (endWord (endingOf phase (st .q))))
+
+      content : (st : State) → Holds items r st → new ≡ bytes (textOf phase st) ++ drop (length (textOf phase st)) old
+      content st h =
+          let w = bytes (codesWord (take (r .count) items)) in
+          put-more old 0 w mid at p (omega (arith, write-room st h n f l)) (bytes (endWord e)) new last q .is
+          ∙ ap (λ (x : List ℕ). x ++ drop (0 + length x) old) (spelled-bytes st h)
+          ∙ ap (λ m. bytes (textOf phase st) ++ drop m old) (zero-add (length (bytes (textOf phase st))) ∙ bytes-length (textOf phase st))
+
+      numbers : (st : State) → Holds items r st → handed Accepted 0 (r .bytes + n) (r .count) ≡ handed Accepted 0 (length (textOf phase st)) (tees (textOf phase st))
+      numbers st h =
+          ap₂ (handed Accepted 0)
+          (omega (arith, size-is st h))
+          (omega (arith, count-is h, tees-append (prefix (st .lead) (st .stack)) (endWord (endingOf phase (st .q))), prefix-tees (st .lead) (st .stack), end-tees (endingOf phase (st .q))))
+
+-- ---- the loop over the syllables
+module _ (items old : List ℕ) (k n : ℕ) (buf : List ℕ) (at : ℕ) (l : k < n) (h : length items ≡ 4096) (m : n ≤ 4096) (e : length (codesWord (take n items)) ≤ length old) (p : Put old 0 (bytes (codesWord (take k items))) buf at) where
+  front-room : length (bytes (codesWord (take k items))) + length (syllableWord (syllableOf (getD items k 0))) ≤ length old
+  front-room = omega (arith, bytes-length (codesWord (take k items)), codes-room items k n l (omega arith))
+
+  pub same-size : length buf ≡ length old
+  same-size = put-length old 0 (bytes (codesWord (take k items))) buf at p (omega (arith, front-room))
+
+  pub one-room : at + length (syllableWord (syllableOf (getD items k 0))) ≤ length buf
+  one-room = omega (arith, same-size, front-room, p .next)
+
+  pub one-more : (s : Syllable) (new : List ℕ) (r : ℕ) → s ≡ syllableOf (getD items k 0) → Put buf at (bytes (syllableWord s)) new r → Put old 0 (bytes (codesWord (take (k + 1) items))) new r
+  one-more s new r f q =
+      subst (λ (w : List ℕ). Put old 0 w new r) whole
+      (put-more old 0 (bytes (codesWord (take k items))) buf at p (omega (arith, front-room)) (bytes (syllableWord s)) new r q)
+    where
+      whole : bytes (codesWord (take k items)) ++ bytes (syllableWord s) ≡ bytes (codesWord (take (k + 1) items))
+      whole =
+          ap (λ (t : Syllable). bytes (codesWord (take k items)) ++ bytes (syllableWord t)) f
+          ∙ sym (bytes-append (codesWord (take k items)) (syllableWord (syllableOf (getD items k 0))))
+          ∙ ap bytes (sym (codes-more items k (omega arith)))
+
+-- ---- the six runs of a tail
+times-bytes : (n : ℕ) (l : Letter) → bytes (times n l) ≡ replicate n (byte l)
+times-bytes zero l = refl
+times-bytes (suc n) l = ap (λ u. byte l ∷ u) (times-bytes n l)
+
+joined : (n : ℕ) (l : Letter) (u : List Letter) (w : List ℕ) → bytes u ≡ w → bytes (times n l ++ u) ≡ replicate n (byte l) ++ w
+joined n l u w h = bytes-append (times n l) u ∙ ap₂ (λ x y. x ++ y) (times-bytes n l) h
+
+replicated : (n x : ℕ) → length (replicate n x) ≡ n
+replicated n x = length-replicate n x
+
+end-bytes : (e : Ending) → replicate (e .first) 83 ++ replicate (e .h) 72 ++ replicate (e .i) 73 ++ replicate (e .x) 88 ++ replicate (e .s) 83 ++ replicate (e .w) 87 ≡ bytes (endWord e)
+end-bytes e = simp append-assoc (sym run₁)
+  where
+    run₅ : bytes (times (e .s) S ++ times (e .w) W) ≡ replicate (e .s) 83 ++ replicate (e .w) 87
+    run₅ = joined (e .s) S (times (e .w) W) (replicate (e .w) 87) (times-bytes (e .w) W)
+
+    run₄ : bytes (times (e .x) X ++ (times (e .s) S ++ times (e .w) W)) ≡ replicate (e .x) 88 ++ (replicate (e .s) 83 ++ replicate (e .w) 87)
+    run₄ = joined (e .x) X (times (e .s) S ++ times (e .w) W) (replicate (e .s) 83 ++ replicate (e .w) 87) run₅
+
+    run₃ : bytes (times (e .i) I ++ (times (e .x) X ++ (times (e .s) S ++ times (e .w) W))) ≡ replicate (e .i) 73 ++ (replicate (e .x) 88 ++ (replicate (e .s) 83 ++ replicate (e .w) 87))
+    run₃ = joined (e .i) I (times (e .x) X ++ (times (e .s) S ++ times (e .w) W)) (replicate (e .x) 88 ++ (replicate (e .s) 83 ++ replicate (e .w) 87)) run₄
+
+    run₂ : bytes (times (e .h) H ++ (times (e .i) I ++ (times (e .x) X ++ (times (e .s) S ++ times (e .w) W)))) ≡ replicate (e .h) 72 ++ (replicate (e .i) 73 ++ (replicate (e .x) 88 ++ (replicate (e .s) 83 ++ replicate (e .w) 87)))
+    run₂ = joined (e .h) H (times (e .i) I ++ (times (e .x) X ++ (times (e .s) S ++ times (e .w) W))) (replicate (e .i) 73 ++ (replicate (e .x) 88 ++ (replicate (e .s) 83 ++ replicate (e .w) 87))) run₃
+
+    run₁ : bytes (endWord e) ≡ replicate (e .first) 83 ++ (replicate (e .h) 72 ++ (replicate (e .i) 73 ++ (replicate (e .x) 88 ++ (replicate (e .s) 83 ++ replicate (e .w) 87))))
+    run₁ = joined (e .first) S (times (e .h) H ++ (times (e .i) I ++ (times (e .x) X ++ (times (e .s) S ++ times (e .w) W)))) (replicate (e .h) 72 ++ (replicate (e .i) 73 ++ (replicate (e .x) 88 ++ (replicate (e .s) 83 ++ replicate (e .w) 87)))) run₂
+
+put-run : (old : List ℕ) (at : ℕ) (w mid : List ℕ) (a x n : ℕ) (new : List ℕ) (r m : ℕ) → length w ≡ m → at + m ≤ length old → Put old at w mid a → Put mid a (replicate n x) new r → Put old at (w ++ replicate n x) new r
+put-run old at w mid a x n new r m e h p q = put-more old at w mid a p (omega arith) (replicate n x) new r q
+
+pub put-six : (old : List ℕ) (at : ℕ) (e : Ending) (b₁ : List ℕ) (a₁ : ℕ) (b₂ : List ℕ) (a₂ : ℕ) (b₃ : List ℕ) (a₃ : ℕ) (b₄ : List ℕ) (a₄ : ℕ) (b₅ : List ℕ) (a₅ : ℕ) (new : List ℕ) (r : ℕ) → at + endSize e ≤ length old → Put old at (replicate (e .first) 83) b₁ a₁ → Put b₁ a₁ (replicate (e .h) 72) b₂ a₂ → Put b₂ a₂ (replicate (e .i) 73) b₃ a₃ → Put b₃ a₃ (replicate (e .x) 88) b₄ a₄ → Put b₄ a₄ (replicate (e .s) 83) b₅ a₅ → Put b₅ a₅ (replicate (e .w) 87) new r → Put old at (bytes (endWord e)) new r
+put-six old at e b₁ a₁ b₂ a₂ b₃ a₃ b₄ a₄ b₅ a₅ new r h p₁ p₂ p₃ p₄ p₅ p₆ =
+    subst (λ (w : List ℕ). Put old at w new r) (end-bytes e)
+    (put-run old at w₅ b₅ a₅ 87 (e .w) new r m₅ e₅ (omega arith)
+    (put-run old at w₄ b₄ a₄ 83 (e .s) b₅ a₅ m₄ e₄ (omega arith)
+    (put-run old at w₃ b₃ a₃ 88 (e .x) b₄ a₄ m₃ e₃ (omega arith)
+    (put-run old at w₂ b₂ a₂ 73 (e .i) b₃ a₃ m₂ e₂ (omega arith)
+    (put-run old at w₁ b₁ a₁ 72 (e .h) b₂ a₂ m₁ e₁ (omega arith) p₁ p₂) p₃) p₄) p₅) p₆)
+  where
+    w₁ : List ℕ
+    w₁ = replicate (e .first) 83
+
+    m₁ : ℕ
+    m₁ = e .first
+
+    e₁ : length w₁ ≡ m₁
+    e₁ = replicated (e .first) 83
+
+    w₂ : List ℕ
+    w₂ = w₁ ++ replicate (e .h) 72
+
+    m₂ : ℕ
+    m₂ = e .first + e .h
+
+    e₂ : length w₂ ≡ m₂
+    e₂ = omega (arith, e₁, length-append w₁ (replicate (e .h) 72), replicated (e .h) 72)
+
+    w₃ : List ℕ
+    w₃ = w₂ ++ replicate (e .i) 73
+
+    m₃ : ℕ
+    m₃ = e .first + e .h + e .i
+
+    e₃ : length w₃ ≡ m₃
+    e₃ = omega (arith, e₂, length-append w₂ (replicate (e .i) 73), replicated (e .i) 73)
+
+    w₄ : List ℕ
+    w₄ = w₃ ++ replicate (e .x) 88
+
+    m₄ : ℕ
+    m₄ = e .first + e .h + e .i + e .x
+
+    e₄ : length w₄ ≡ m₄
+    e₄ = omega (arith, e₃, length-append w₃ (replicate (e .x) 88), replicated (e .x) 88)
+
+    w₅ : List ℕ
+    w₅ = w₄ ++ replicate (e .s) 83
+
+    m₅ : ℕ
+    m₅ = e .first + e .h + e .i + e .x + e .s
+
+    e₅ : length w₅ ≡ m₅
+    e₅ = omega (arith, e₄, length-append w₄ (replicate (e .s) 83), replicated (e .s) 83)
+
+-- where a run ends, and that its buffer is as long
+pub record Ran (at n : ℕ) (old new : List ℕ) (r : ℕ) : Type 0 where
+  pub next : r ≡ at + n
+  pub long : length new ≡ length old
+
+pub ran : (old : List ℕ) (at x n : ℕ) (new : List ℕ) (r : ℕ) → Put old at (replicate n x) new r → length new ≡ length old → Ran at n old new r
+ran old at x n new r p k = record { next = p .next ∙ ap (λ m. at + m) (replicated n x); long = k }
+
+-- ---- the whole
+pub answered-by : (phase : Bool) (w items : List ℕ) (r : Reading) (old : List ℕ) (n : Written) (new : List ℕ) → length w ≤ 4096 → Inside w (length w) → Holds items r (run start (lettersOf w)) → Writes phase items r old n new → Outcome (Answers phase) w old n new
+answered-by phase w items r old n new l f h p =
+    answered (lettersOf w) (textOf phase (run start (lettersOf w))) l (spells w f) (answers phase (lettersOf w)) (p .writes (run start (lettersOf w)) h)
+
+pub scanned : (w : List ℕ) (r : Letters) → Scanned w r → r ≡ Letters.Known → Inside w (length w)
+scanned w r s e = subst (Scanned w) e s
+
+pub found : (w : List ℕ) (r : Letters) (p : ℕ) → Scanned w r → r ≡ Letters.Outside p → Outside w p
+found w r p s e = subst (Scanned w) e s
+
+pub count-most : (items : List ℕ) (r : Reading) (w : List ℕ) → Holds items r (run start (lettersOf w)) → length w ≤ 4096 → r .count ≤ 4096
+count-most items r w h l = omega (arith, count-few items r w (length w) (subst (λ (u : List ℕ). Holds items r (run start (lettersOf u))) (sym (take-length w)) h) (omega arith))

@@ -1,0 +1,198 @@
+// Normal words into a lent buffer. The length and the T letters are known before a byte is written.
+ghost use mathlib.Core.Path.{_≡_};
+ghost use mathlib.Core.Bool.{cond};
+ghost use mathlib.Core.List.{[], _∷_};
+ghost use Prim.Native.Nat.{_+_, _≤_, _<_};
+ghost use lib.Dec.{eqb};
+ghost use lib.ListN.{length, replicate, take};
+ghost use Rattle.exact.specs.Meaning.Word.{bytes};
+ghost use Rattle.normal_form.specs.Job6.{Ranged};
+ghost use Rattle.normal_form.specs.Held.{syllableWord, Readable};
+ghost use Rattle.normal_form.specs.Put.{Put};
+ghost use Rattle.normal_form.specs.Endings.{essesOf, aitchesOf, endWord, endSize, endingOf, Ended};
+ghost use Rattle.normal_form.specs.Answers.{codesWord, Writes};
+use crate::Written;
+use crate::clifford::Axis;
+use crate::clifford::Clifford;
+use crate::reading::Reading;
+use crate::reading::Syllable;
+
+// How often each letter stands in a tail: S, H, I, X, S and W, in this order.
+pub struct Ending {
+    pub first: usize,
+    pub h: usize,
+    pub i: usize,
+    pub x: usize,
+    pub s: usize,
+    pub w: usize,
+}
+
+fn wide(x: u8) -> usize
+    ensures { λ r. ⌜ r ≡ x ⌝ }
+{
+    x as usize
+}
+
+fn esses(axis: Axis) -> usize
+    ensures { λ r. ⌜ r ≡ essesOf axis ⌝ }
+{
+    match axis {
+        Axis::I => 0,
+        Axis::H => 0,
+        Axis::SH => 1,
+    }
+}
+
+fn aitches(axis: Axis) -> usize
+    ensures { λ r. ⌜ r ≡ aitchesOf axis ⌝ }
+{
+    match axis {
+        Axis::I => 0,
+        Axis::H => 1,
+        Axis::SH => 1,
+    }
+}
+
+// An empty tail is one I.
+fn one_if_none(n: usize) -> usize
+    ensures { λ r. ⌜ r ≡ cond (eqb n 0) 1 0 ⌝ }
+{
+    if n == 0 { 1 } else { 0 }
+}
+
+fn kept(phase: bool, w: usize) -> usize
+    ensures { λ r. ⌜ r ≡ cond phase w 0 ⌝ }
+{
+    if phase { w } else { 0 }
+}
+
+fn ending_of(q: Clifford, phase: bool) -> Ending
+    requires { ⌜ Ranged q ⌝ }
+    ensures { λ r. ⌜ Ended phase q r ⌝ }
+{
+    let split = q.decompose_coset();
+    let axis = split.axis;
+    let rest = split.rest;
+    let first = esses(axis);
+    let h = aitches(axis);
+    let x = wide(rest.b);
+    let s = wide(rest.c);
+    let w = wide(rest.d);
+    let i = one_if_none(first + h + x + s + w);
+    let last = kept(phase, w);
+    Ending {
+        first: first,
+        h: h,
+        i: i,
+        x: x,
+        s: s,
+        w: last,
+    }
+}
+
+impl Ending {
+    fn size(self) -> usize
+        requires { ⌜ endSize self ≤ 64 ⌝ }
+        ensures { λ r. ⌜ r ≡ endSize self ⌝ }
+    {
+        self.first + self.h + self.i + self.x + self.s + self.w
+    }
+}
+
+fn put_letter(buf: &mut [u8], at: usize, letter: u8) -> usize
+    requires { ⌜ at < length (now buf) ⌝ }
+    ensures { λ r. ⌜ Put (now (buf .entry)) at (letter ∷ []) (now (buf .exit)) r ⌝ }
+{
+    buf[at] = letter;
+    at + 1
+}
+
+fn put_times(buf: &mut [u8], at: usize, letter: u8, n: usize) -> usize
+    requires { ⌜ at + n ≤ length (now buf) ⌝ }
+    ensures { λ r. ⌜ Put (now (buf .entry)) at (replicate n letter) (now (buf .exit)) r ⌝ }
+{
+    let mut j: usize = 0;
+    while j < n {
+        buf[at + j] = letter;
+        j += 1;
+    }
+    at + n
+}
+
+fn put_syllable(buf: &mut [u8], at: usize, s: Syllable) -> usize
+    requires { ⌜ at + length (syllableWord s) ≤ length (now buf) ⌝ }
+    ensures { λ r. ⌜ Put (now (buf .entry)) at (bytes (syllableWord s)) (now (buf .exit)) r ⌝ }
+{
+    match s {
+        Syllable::I => at,
+        Syllable::T => put_letter(buf, at, b'T'),
+        Syllable::HT => {
+            let a = put_letter(buf, at, b'H');
+            put_letter(buf, a, b'T')
+        }
+        Syllable::SHT => {
+            let a = put_letter(buf, at, b'S');
+            let b = put_letter(buf, a, b'H');
+            put_letter(buf, b, b'T')
+        }
+    }
+}
+
+fn put_syllables(buf: &mut [u8], items: &[u8; 4096], count: usize) -> usize
+    requires { ⌜ (length (now items) ≡ 4096) × (count ≤ 4096) × (length (codesWord (take count (now items))) ≤ length (now buf)) ⌝ }
+    ensures { λ r. ⌜ Put (now (buf .entry)) 0 (bytes (codesWord (take count (now (items .entry))))) (now (buf .exit)) r ⌝ }
+{
+    let mut at: usize = 0;
+    let mut k: usize = 0;
+    while k < count {
+        let s = Syllable::of(items[k]);
+        at = put_syllable(buf, at, s);
+        k += 1;
+    }
+    at
+}
+
+fn put_ending(buf: &mut [u8], at: usize, e: Ending) -> usize
+    requires { ⌜ at + endSize e ≤ length (now buf) ⌝ }
+    ensures { λ r. ⌜ Put (now (buf .entry)) at (bytes (endWord e)) (now (buf .exit)) r ⌝ }
+{
+    let first = e.first;
+    let h = e.h;
+    let i = e.i;
+    let x = e.x;
+    let s = e.s;
+    let w = e.w;
+    let a = put_times(buf, at, b'S', first);
+    let b = put_times(buf, a, b'H', h);
+    let c = put_times(buf, b, b'I', i);
+    let d = put_times(buf, c, b'X', x);
+    let f = put_times(buf, d, b'S', s);
+    put_times(buf, f, b'W', w)
+}
+
+// The word of a reading, if there is room for it.
+pub fn write(items: &[u8; 4096], r: Reading, phase: bool, buf: &mut [u8]) -> Written
+    requires { ⌜ Readable (now items) r ⌝ ∗ ⌜ r .count ≤ 4096 ⌝ }
+    ensures { λ n. ⌜ Writes phase (now (items .entry)) r (now (buf .entry)) n (now (buf .exit)) ⌝ }
+{
+    let tail = r.tail;
+    let count = r.count;
+    let e = ending_of(tail, phase);
+    let n = r.bytes + e.size();
+    if n > buf.len() {
+        return Written {
+            refusal: exact::ROOM,
+            place: 0,
+            bytes: 0,
+            tees: 0,
+        };
+    }
+    let at = put_syllables(buf, items, count);
+    put_ending(buf, at, e);
+    Written {
+        refusal: exact::ACCEPTED,
+        place: 0,
+        bytes: n,
+        tees: count,
+    }
+}

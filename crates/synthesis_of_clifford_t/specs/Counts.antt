@@ -1,0 +1,118 @@
+-- How many letters: before normalising at most 6k+12 of H, S, X, W and T, of which at most 2k+1 are T; and a normal word with that matrix has at most
+-- 6k+16. Assumes nothing.
+use mathlib.Core.Path.{ap}
+use mathlib.Core.Bool.{Bool, true, false}
+use mathlib.Core.List.{List, [], _∷_, _++_}
+use Prim.Native.Nat.{ℕ, zero, suc, _+_, _*_, _≤_}
+use native.Mathlib.Omega.{arith}
+use lib.Dec.{T}
+use lib.ListN.{length, length-append}
+use Rattle.exact.specs.Meaning.Matrix.{Same}
+use Rattle.exact.specs.Meaning.Word.{Letter, S, X, W, T′, word, tees, job3}
+use Rattle.exact.specs.Meaning.Normal.{Syllable, HT, SHT, Front, nothing, onlyH, onlySH, Tail, times, frontWord, tailWord, orI, after, leading, Fits, Normal}
+use Rattle.exact.specs.Meaning.Triple.{Triple, entries}
+use Rattle.exact.specs.Meaning.Limits.{deepest, enough}
+use Rattle.exact.specs.Matrices.Same.{Same-sym, Same-trans}
+use Rattle.exact.specs.Unique.Tails.{tees-append}
+use Rattle.exact.specs.Unique.Normal.{normal-fewest}
+use Rattle.synthesis_of_clifford_t.specs.Step.{Ready, block, power, next}
+use Rattle.synthesis_of_clifford_t.specs.Closing.{closing, lead, swaps, quarters, phase, closing-length, closing-tees, length-times}
+use Rattle.synthesis_of_clifford_t.specs.Steps.{letters, steps, by-steps, letters-end, letters-more, letters-same, steps-more, steps-few}
+
+-- ---- before normalising
+pub block-length : (m : ℕ) → (1 ≤ length (block m)) × (length (block m) ≤ 3)
+block-length zero = (omega arith, omega arith)
+block-length (suc zero) = (omega arith, omega arith)
+block-length (suc (suc zero)) = (omega arith, omega arith)
+block-length (suc (suc (suc m))) = (omega arith, omega arith)
+
+pub block-tees : (m : ℕ) → tees (block m) ≤ 1
+block-tees zero = omega arith
+block-tees (suc zero) = omega arith
+block-tees (suc (suc zero)) = omega arith
+block-tees (suc (suc (suc m))) = omega arith
+
+pub letters-steps : (t : Triple) → Ready t → length (letters t) ≤ 3 * steps t + 12
+letters-steps =
+    by-steps (λ t. length (letters t) ≤ 3 * steps t + 12)
+    (λ t r e. omega (arith, ap length (letters-end t e), closing-length t (r .unitary) e))
+    (λ t k r e h. omega (arith, ap length (letters-more t k r e), length-append (block (power t)) (letters (next t)), block-length (power t) .1, steps-more t k r e))
+
+pub letters-length : (t : Triple) → Ready t → length (letters t) ≤ 6 * t .k + 12
+letters-length t r = omega (arith, letters-steps t r, steps-few t r)
+
+pub letters-tees : (t : Triple) → Ready t → tees (letters t) ≤ 2 * t .k + 1
+letters-tees t r = omega (arith, by-step t r, steps-few t r)
+  where
+    by-step : (t : Triple) → Ready t → tees (letters t) ≤ steps t + 1
+    by-step =
+        by-steps (λ t. tees (letters t) ≤ steps t + 1)
+        (λ t r e. omega (arith, ap tees (letters-end t e), closing-tees t))
+        (λ t k r e h. omega (arith, ap tees (letters-more t k r e), tees-append (block (power t)) (letters (next t)), block-tees (power t), steps-more t k r e))
+
+-- ---- the letters are those of job 3
+abbrev pub Plain : List Letter → Type 0
+Plain [] = Unit {0}
+Plain (l ∷ u) = T (job3 l) × Plain u
+
+plain-append : (u v : List Letter) → Plain u → Plain v → Plain (u ++ v)
+plain-append [] v p q = q
+plain-append (l ∷ u) v p q = (p .0, plain-append u v (p .1) q)
+
+plain-times : (n : ℕ) (l : Letter) → T (job3 l) → Plain (times n l)
+plain-times zero l t = tt
+plain-times (suc n) l t = (t, plain-times n l t)
+
+pub block-plain : (m : ℕ) → Plain (block m)
+block-plain zero = (tt, tt)
+block-plain (suc zero) = (tt, (tt, tt))
+block-plain (suc (suc zero)) = (tt, (tt, tt))
+block-plain (suc (suc (suc m))) = (tt, (tt, (tt, tt)))
+
+pub closing-plain : (t : Triple) → Plain (closing t)
+unfolding closing
+closing-plain t = go (lead t) (swaps t) (quarters t) (phase t)
+  where
+    go : (p q s m : ℕ) → Plain (times p T′ ++ (times q X ++ (times s S ++ times m W)))
+    go p q s m =
+        plain-append (times p T′) (times q X ++ (times s S ++ times m W)) (plain-times p T′ tt)
+        (plain-append (times q X) (times s S ++ times m W) (plain-times q X tt) (plain-append (times s S) (times m W) (plain-times s S tt) (plain-times m W tt)))
+
+pub letters-plain : (t : Triple) → Ready t → Plain (letters t)
+letters-plain =
+    by-steps (λ t. Plain (letters t))
+    (λ t r e. rw (letters-end t e) (closing-plain t))
+    (λ t k r e h. rw (letters-more t k r e) (plain-append (block (power t)) (letters (next t)) (block-plain (power t)) h))
+
+-- ---- a normal word: three letters for each T, and a tail of thirteen
+tail-length : (t : Tail) → Fits t → length (orI (tailWord t)) ≤ 13
+tail-length t f = at (tailWord t) (simp (length-append, length-times) (omega (arith, front-length (t .front))))
+  where
+    front-length : (f : Front) → length (frontWord f) ≤ 2
+    front-length nothing = omega arith
+    front-length onlyH = omega arith
+    front-length onlySH = omega arith
+
+    at : (u : List Letter) → length u ≤ 13 → length (orI u) ≤ 13
+    at [] h = omega arith
+    at (l ∷ u) h = h
+
+after-length : (ss : List Syllable) (u : List Letter) → length u ≤ 13 → length (after ss u) ≤ 3 * tees (after ss u) + 13
+after-length [] u h = omega arith
+after-length (HT ∷ ss) u h = omega (arith, after-length ss u h)
+after-length (SHT ∷ ss) u h = omega (arith, after-length ss u h)
+
+leading-length : (b : Bool) (u : List Letter) → length u ≤ 3 * tees u + 13 → length (leading b u) ≤ 3 * tees (leading b u) + 13
+leading-length true u h = omega arith
+leading-length false u h = h
+
+pub normal-length : {v : List Letter} → Normal v → length v ≤ 3 * tees v + 13
+normal-length {v} n = rw (n .spelled) at (leading-length (n .shape .lead) (after (n .shape .syllables) (orI (tailWord (n .shape .tail)))) (after-length (n .shape .syllables) (orI (tailWord (n .shape .tail))) (tail-length (n .shape .tail) (n .fits))))
+
+-- ---- the answer
+pub answer-length : (t : Triple) (v : List Letter) → Ready t → Normal v → Same (word v) (entries t) → length v ≤ 6 * t .k + 16
+answer-length t v r n h =
+    omega (arith, normal-length n, normal-fewest (letters t) (Same-trans (letters-same t r) (Same-sym h)) n, letters-tees t r)
+
+pub answer-enough : (t : Triple) (v : List Letter) → Ready t → t .k ≤ deepest → Normal v → Same (word v) (entries t) → length v ≤ enough
+answer-enough t v r d n h = omega (arith, answer-length t v r n h)

@@ -1,0 +1,71 @@
+-- Exact synthesis whole: the letters that a unitary triple, reduced first, is taken apart into have its matrix, phase included; when a step exists, and
+-- what it is; and what follows for words: their normal words' lengths, by the least exponent. Assumes nothing.
+use mathlib.Core.Path.{_≡_, ap}
+use mathlib.Core.List.{List}
+use Prim.Native.Nat.{ℕ, zero, suc, _+_, _*_, _≤_, _<_}
+use native.Mathlib.Omega.{arith}
+use lib.ListN.{length}
+use Rattle.exact.specs.Meaning.Matrix.{_·_, Same, Least}
+use Rattle.exact.specs.Meaning.Word.{Letter, word}
+use Rattle.exact.specs.Meaning.Triple.{Triple, entries, Unitary}
+use Rattle.exact.specs.Meaning.Normal.{Normal}
+use Rattle.exact.specs.Meaning.Limits.{deepest, enough}
+use Rattle.exact.specs.Matrices.Same.{Same-sym, Same-trans, Same-of}
+use Rattle.exact.specs.Matrices.Triples.{unitary-same, tripleOf, word-triple, word-unitary}
+use Rattle.exact.specs.Matrices.Least.{reduce, reduce-reduces, answer-unique, least-unique, least-same}
+use Rattle.synthesis_of_clifford_t.specs.Step.{Ready, Ended, Stepped, reduction, block, power, power-few, next, next-ready, next-n, step-same}
+use Rattle.synthesis_of_clifford_t.specs.Steps.{left, left-few, left-next, letters, letters-same}
+use Rattle.synthesis_of_clifford_t.specs.Counts.{answer-length}
+
+-- ---- a step: one of the four blocks, and a reduced unitary triple from which fewer steps are left
+pub record StepTo (t : Triple) (m : ℕ) (s : Triple) : Type 0 where
+  pub few : m < 4
+  pub same : Same (word (block m) · entries s) (entries t)
+  pub ready : Ready s
+  pub n-small : s .n < 8
+  pub nearer : left s < left t
+
+-- it exists where k is over 0, and only there
+pub step-exists : (t : Triple) (k : ℕ) → Ready t → t .k ≡ suc k → StepTo t (power t) (next t)
+step-exists t k r e = record { few = power-few t; same = step-same t; ready = next-ready (r .unitary); n-small = next-n t; nearer = left-next t k r e }
+
+pub step-only : (t s : Triple) (m : ℕ) → StepTo t m s → 0 < t .k
+step-only t s m h = omega (arith, h .nearer, left-few t .1)
+
+-- what a reduction answers
+pub reduction-ended : (t : Triple) → t .k ≡ 0 → reduction t ≡ Ended
+reduction-ended t e = ap (λ k. elim k [ zero ↦ Ended | suc k ↦ Stepped (power t) (next t) ]) e
+
+pub reduction-stepped : (t : Triple) (k : ℕ) → t .k ≡ suc k → reduction t ≡ Stepped (power t) (next t)
+reduction-stepped t k e = ap (λ k. elim k [ zero ↦ Ended | suc k ↦ Stepped (power t) (next t) ]) e
+
+-- ---- every unitary triple
+pub reduce-ready : (t : Triple) → Unitary t → Ready (reduce t)
+reduce-ready t u = record { unitary = unitary-same (Same-sym (reduce-reduces t .same)) u; reduced = reduce-reduces t .reduced }
+
+pub synthesised : (t : Triple) → Unitary t → Same (word (letters (reduce t))) (entries t)
+synthesised t u = Same-trans (letters-same (reduce t) (reduce-ready t u)) (reduce-reduces t .same)
+
+-- triples with one matrix have the same letters
+pub letters-alike : (s t : Triple) → Unitary s → Same (entries s) (entries t) → letters (reduce s) ≡ letters (reduce t)
+letters-alike s t u h =
+    ap letters
+    (answer-unique (reduce-ready s u .unitary) (reduce-reduces s .reduced) (reduce-reduces t .reduced) (reduce-reduces s .n-small) (reduce-reduces t .n-small)
+    (Same-trans (reduce-reduces s .same) (Same-trans h (Same-sym (reduce-reduces t .same)))))
+
+-- ---- words
+reduced-word : (u : List Letter) → Same (entries (reduce (tripleOf u))) (word u)
+reduced-word u = Same-trans (reduce-reduces (tripleOf u) .same) (Same-of (word-triple u))
+
+pub word-synthesised : (u : List Letter) → Same (word (letters (reduce (tripleOf u)))) (word u)
+word-synthesised u = Same-trans (synthesised (tripleOf u) (word-unitary u)) (Same-of (word-triple u))
+
+-- a normal word with a word's matrix, by that matrix's least exponent
+pub word-length : (u v : List Letter) (k : ℕ) → Least (word u) k → Normal v → Same (word v) (word u) → length v ≤ 6 * k + 16
+word-length u v k l n h =
+    let r = reduce (tripleOf u) in
+    let q : Ready r = reduce-ready (tripleOf u) (word-unitary u) in
+    omega (arith, answer-length r v q n (Same-trans h (Same-sym (reduced-word u))), least-unique l (least-same (reduced-word u) (q .reduced .least)))
+
+pub word-enough : (u v : List Letter) (k : ℕ) → Least (word u) k → k ≤ deepest → Normal v → Same (word v) (word u) → length v ≤ enough
+word-enough u v k l d n h = omega (arith, word-length u v k l n h)
