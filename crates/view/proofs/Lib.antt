@@ -1,0 +1,13 @@
+mod Rounding
+mod Operations
+mod Casting
+mod Units
+mod Powers
+mod Error
+mod Product
+mod Signs
+mod Whole
+mod Zero
+mod Numbers
+mod Branches
+mod Job

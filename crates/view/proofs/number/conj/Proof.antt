@@ -1,0 +1,35 @@
+-- `number::conj` meets its contract. Assumes nothing.
+use mathlib.Core.Path.{_∙_}
+use Prim.Native.Nat.{_^_}
+use lib.IntN.{pos}
+use Rattle.exact.specs.Algebra.Omega.{quad-path}
+use Rattle.exact.specs.Whole.Machine.{arg, lit, _∸_}
+use Rattle.ring.specs.Number.{quad}
+use Rattle.ring.specs.Code.{need₁, gives₁}
+use Rattle.view.specs.Size.{coefficients}
+use Rattle.view.proofs.Numbers.{minus}
+use Rattle.view.proofs.number.conj.Statement.{statement}
+use Rattle.view.proofs.number.conj.Tie as tie
+
+sub-t6 : tie.Need-sub-t6
+sub-t6 c = let d = c .before .before .before .before in need₁ (2 ^ 30) (d .args .x) (coefficients (quad (d .args .x)) (d .pre)) (lit (pos 0) ∸ arg 2) tt
+
+sub-t7 : tie.Need-sub-t7
+sub-t7 c = let d = c .before .before .before .before in need₁ (2 ^ 30) (d .args .x) (coefficients (quad (d .args .x)) (d .pre)) (lit (pos 0) ∸ arg 1) tt
+
+sub-t8 : tie.Need-sub-t8
+sub-t8 c = let d = c .before .before .before .before in need₁ (2 ^ 30) (d .args .x) (coefficients (quad (d .args .x)) (d .pre)) (lit (pos 0) ∸ arg 0) tt
+
+returns : tie.Need-returns
+returns c =
+    let d = c .before .before .before .before in
+    let x = d .args .x in
+    let s = coefficients (quad x) (d .pre) in
+    quad-path
+    (gives₁ (2 ^ 30) x s (lit (pos 0) ∸ arg 2) tt ∙ minus (x .c))
+    (gives₁ (2 ^ 30) x s (lit (pos 0) ∸ arg 1) tt ∙ minus (x .b))
+    (gives₁ (2 ^ 30) x s (lit (pos 0) ∸ arg 0) tt ∙ minus (x .a))
+    (gives₁ (2 ^ 30) x s (arg 3) tt)
+
+pub conj-spec : {M : Type 1} → statement M
+conj-spec = tie.close (tie.spec sub-t6 sub-t7 sub-t8 returns)

@@ -1,0 +1,6 @@
+pub mod Meaning
+pub mod Root
+pub mod Size
+pub mod Tied
+pub mod Unique
+pub mod Cases
