@@ -162,8 +162,8 @@ module _ (u : List Letter) (w : Within u) (old₁ old₂ : List ℕ) (room₁ : 
       let x = job-3 u w old₁ first new₁ room₁ a in
       let m = job-2 u w matrix b in
       let y = job-4 u w matrix m old₂ second new₂ room₂ c in
-      let e : y .v ≡ x .v = unique (y .normal) (x .normal) (Same-trans (y .same) (Same-sym (x .same))) in
-      ( x .v,
+      let e : y .v ≡ x .v = unique (y .normal) (x .normal) (Same-trans (y .same) (Same-sym (x .same))) in (
+        x .v,
         record {
           normal = x .normal;
           same = x .same;
@@ -172,7 +172,8 @@ module _ (u : List Letter) (w : Within u) (old₁ old₂ : List ℕ) (room₁ : 
           matrix-taken = m .taken;
           second-is = y .is ∙ ap (λ (l : List Letter). Job4.handed Accepted (length l) (tees l)) e;
           second-bytes = y .written ∙ ap (λ (l : List Letter). bytes l ++ drop (length l) old₂) e;
-        } )
+        },
+      )
 
 -- ---- two such words with one matrix have one outcome
 pub record OneOutcome (first first′ : Written) (new₁ new₁′ : List ℕ) (second second′ : Synthesis) (new₂ new₂′ : List ℕ) : Type 0 where

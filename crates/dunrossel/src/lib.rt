@@ -1,6 +1,7 @@
 // The library that other programs link: every job, with numbers and slices only.
 ghost use mathlib.Core.Path.{_≡_};
 ghost use Rattle.dunrossel.specs.Numbers.{zOf, wOf, ten, Wide, Reduces, Multiplies};
+ghost use Rattle.dunrossel.specs.Views.{eightOf, Views};
 ghost use Rattle.dunrossel.specs.Words.{counts, Writes};
 ghost use Rattle.dunrossel.specs.Cliffords.{Narrow, listed, fourOf, fiveOf, Multiplied, Inverted, Parted};
 ghost use Rattle.normal_form.specs.Job6.{axisNumber};
@@ -12,6 +13,7 @@ use normal_form::clifford::Clifford;
 use normal_form::clifford::Coset;
 use ring::ZOmega;
 use unitary::DOmegaUnitary;
+use view::matrix::View;
 
 fn z_of(zw: &[i64; 8]) -> ZOmega
     ensures { λ r. ⌜ r ≡ zOf (now (zw .entry)) ⌝ }
@@ -48,18 +50,7 @@ fn put_ten(t: DOmegaUnitary, out: &mut [i64; 10])
     let w = t.w;
     let k = wide(t.k);
     let n = wide(t.n);
-    let numbers = [
-        k,
-        n,
-        z.a,
-        z.b,
-        z.c,
-        z.d,
-        w.a,
-        w.b,
-        w.c,
-        w.d,
-    ];
+    let numbers = [k, n, z.a, z.b, z.c, z.d, w.a, w.b, w.c, w.d];
     *out = numbers;
 }
 
@@ -194,4 +185,31 @@ pub extern "C" fn dunrossel_clifford_coset(x: &[i32; 4], out: &mut [i32; 5])
     let q = four_of(x);
     let answer = clifford::clifford_split(q.a, q.b, q.c, q.d);
     put_coset(answer, out);
+}
+
+fn put_view(v: View, out: &mut [f64; 8])
+    ensures { λ r. ⌜ now (out .exit) ≡ eightOf v ⌝ }
+{
+    *out = [
+        v.re00,
+        v.im00,
+        v.re01,
+        v.im01,
+        v.re10,
+        v.im10,
+        v.re11,
+        v.im11,
+    ];
+}
+
+#[no_mangle]
+pub extern "C" fn dunrossel_view(k: i64, n: u8, zw: &[i64; 8], out: &mut [f64; 8]) -> u8
+    ensures { λ r. ⌜ Views k n (now (zw .entry)) r (now (out .exit)) ⌝ }
+{
+    let z = z_of(zw);
+    let w = w_of(zw);
+    let answer = view::view(k, n, z, w);
+    let shown = answer.view;
+    put_view(shown, out);
+    answer.refusal
 }
