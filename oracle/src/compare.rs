@@ -10,6 +10,7 @@ mod differences;
 mod exact;
 mod inputs;
 mod integers;
+mod library;
 mod plants;
 mod records;
 mod report;
