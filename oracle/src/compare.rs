@@ -39,9 +39,9 @@ fn every_run(report: &mut Report) {
     timed(report, "words around 4,096 letters", |r| runs::around_long(r, 4));
     timed(report, "bytes that are no letters", runs::letters);
     timed(report, "words around exponent 60", |r| runs::around_deep(r, 6));
+    timed(report, "triples at the edges", runs::triple_edges);
     timed(report, "triples of up to 4 T", |r| runs::few_t(r, 4));
     timed(report, "random triples to exponent 60", |r| runs::deep(r, 60));
-    timed(report, "triples at the edges", runs::triple_edges);
     timed(report, "Cliffords", |r| runs::all_cliffords(r, 16));
     timed(report, "bench records", |r| runs::bench_records(r, 3000));
     timed(report, "listed differences", differences::all);

@@ -6,6 +6,7 @@ use std::collections::BTreeMap;
 pub struct Report {
     kinds: BTreeMap<&'static str, u64>,
     notes: BTreeMap<&'static str, u64>,
+    firsts: BTreeMap<&'static str, String>,
     pub cases: u64,
     pub unexplained: u64,
     silent: bool,
@@ -35,6 +36,11 @@ impl Report {
         }
     }
 
+    /// The first input of a kind, to be printed with its count.
+    pub fn first(&mut self, kind: &'static str, input: impl FnOnce() -> String) {
+        self.firsts.entry(kind).or_insert_with(input);
+    }
+
     /// What is counted besides the cases.
     pub fn note(&mut self, what: &'static str, n: u64) {
         *self.notes.entry(what).or_default() += n;
@@ -46,7 +52,10 @@ impl Report {
     }
 
     pub fn print(&self) {
-        let line = |(kind, n): (&&str, &u64)| println!("{n:>9}  {kind}");
+        let line = |(kind, n): (&&str, &u64)| match self.firsts.get(kind) {
+            Some(input) => println!("{n:>9}  {kind}; first: {input}"),
+            None => println!("{n:>9}  {kind}"),
+        };
         self.kinds.iter().for_each(line);
         println!("besides:");
         self.notes.iter().for_each(line);

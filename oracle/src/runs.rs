@@ -236,7 +236,7 @@ pub fn triple_edges(report: &mut Report) {
     }
     for n in 0..=255 {
         let mut zw = [0; 8];
-        zw[n as usize % 8] = 1;
+        zw[(n as usize + 3) % 8] = 1;
         triples::all(report, &(0, n, zw), Rooms::All);
         let mut up: Triple = (0, n, zw);
         for _ in 0..60 {

@@ -82,6 +82,18 @@ pub fn synthesise(k: i64, n: u8, zw: &[i64; 8]) -> Option<Vec<u8>> {
     caught(|| decompose_domega_unitary(triples::triple(k, n, zw)).into_bytes())
 }
 
+/// On a triple that is refused here: whether the Rust panics; none where it would not end, or cost too much memory.
+pub fn synthesis_panics(k: i64, n: u8, zw: &[i64; 8]) -> Option<bool> {
+    if !(-100..=200).contains(&k) {
+        return None;
+    }
+    match caught(|| steps::ends(triples::triple(k, n, zw), 1000)) {
+        Some(false) => None,
+        Some(true) => Some(synthesise(k, n, zw).is_none()),
+        None => Some(true),
+    }
+}
+
 /// The letters before normalising.
 pub fn letters(k: i64, n: u8, zw: &[i64; 8]) -> Option<Vec<u8>> {
     caught(|| steps::letters(triples::triple(k, n, zw)).into_bytes())

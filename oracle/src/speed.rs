@@ -1,5 +1,6 @@
 //! Times the library and the published Rust on the same inputs in one process, and prints a table for docs/SPEED.md.
-//! A round times both, one after the other; the ratio is taken round by round.
+//! A round times both, one after the other; the ratio is taken round by round. A word that takes the Rust's SHT arm
+//! is timed as any other.
 
 #[allow(dead_code)]
 mod abi;
@@ -8,16 +9,16 @@ mod exact;
 #[allow(dead_code)]
 mod inputs;
 #[allow(dead_code)]
+mod library;
+#[allow(dead_code)]
 mod rust;
-mod stack;
 
-use abi::c;
 use inputs::{Random, Triple, JOB_2, JOB_3};
+use library::c;
 use rsgridsynth::normal_form::NormalForm;
 use rsgridsynth::synthesis_of_clifford_t::decompose_domega_unitary;
 use rsgridsynth::unitary::{access, DOmegaUnitary};
 use std::hint::black_box;
-use std::time::Instant;
 
 const ROUNDS: usize = 15;
 
@@ -34,11 +35,22 @@ fn median(v: &[f64]) -> f64 {
     sorted[sorted.len() / 2]
 }
 
-/// Nanoseconds a call, `per` of them a turn.
-fn timed(per: usize, work: impl FnOnce()) -> f64 {
-    let start = Instant::now();
+/// Nanoseconds of this thread's own time, so that a busy machine spreads the rounds less.
+fn now() -> f64 {
+    extern "C" {
+        fn clock_gettime(clock: i32, time: *mut [i64; 2]) -> i32;
+    }
+    const CLOCK_THREAD_CPUTIME_ID: i32 = 3;
+    let mut time = [0; 2];
+    assert_eq!(unsafe { clock_gettime(CLOCK_THREAD_CPUTIME_ID, &mut time) }, 0);
+    time[0] as f64 * 1e9 + time[1] as f64
+}
+
+/// Nanoseconds a call, `calls` of them made by the work.
+fn timed(calls: usize, work: impl FnOnce()) -> f64 {
+    let start = now();
     work();
-    start.elapsed().as_nanos() as f64 / per as f64
+    (now() - start) / calls as f64
 }
 
 impl Row {
@@ -63,13 +75,13 @@ impl Row {
 }
 
 /// Both sides over the inputs, in rounds; the first round is not counted.
-fn race<I, P>(
+fn race<'a, I, P>(
     what: String,
     per: f64,
-    inputs: &[I],
+    inputs: &'a [I],
     turns: usize,
-    ours: impl Fn(&I),
-    prepare: impl Fn(&I) -> P,
+    ours: impl Fn(&'a I),
+    prepare: impl Fn(&'a I) -> P,
     rust: impl Fn(P),
 ) {
     let mut row = Row { what, per, ours: Vec::new(), rust: Vec::new() };
@@ -128,7 +140,8 @@ fn words(random: &mut Random, letters: &[u8], len: usize, n: usize) -> Vec<Vec<u
 fn triples(random: &mut Random, k: i64, n: usize) -> Vec<Triple> {
     let mut found = Vec::new();
     while found.len() < n {
-        let word = random.normal(2 * k as usize - 2 + random.below(4));
+        let more = random.below(4);
+        let word = random.normal(2 * k as usize - 2 + more);
         if let Some(Some(m)) = rust::matrix(text(&word)) {
             if m[0] == k {
                 found.push((m[0], m[1] as u8, m[2..].try_into().unwrap()));
@@ -138,7 +151,7 @@ fn triples(random: &mut Random, k: i64, n: usize) -> Vec<Triple> {
     found
 }
 
-fn races() {
+fn main() {
     let mut random = Random::new(20);
     println!("| What | the Rust, us a call | ours, us a call | ours, ns a letter | ratio, median (least to most) |");
     println!("|---|---|---|---|---|");
@@ -173,38 +186,3 @@ fn races() {
     }
 }
 
-fn stacks() {
-    let mut random = Random::new(21);
-    let word = [b"T".as_slice(), &b"HT".repeat(2047)].concat();
-    let any = random.word(JOB_3, 4096);
-    let (mut buf, mut out, mut numbers) = ([0u8; 12_320], [0u64; 10], [0i64; 10]);
-    let (k, n, zw) = triples(&mut random, 60, 1)[0];
-    let (b, o, m, z) = (buf.as_mut_ptr() as usize, out.as_mut_ptr() as usize, numbers.as_mut_ptr() as usize, zw.as_ptr() as usize);
-    let on = |w: &[u8]| [w.as_ptr() as usize, w.len(), b, buf.len(), o, 0];
-    let of = [k as usize, n as usize, z, b, 376, o];
-    let record = b"k=1\nn=4\nz=0,0,0,1\nw=0,0,0,1\n";
-    println!("\n| Export | stack taken, bytes |");
-    println!("|---|---|");
-    let most = |name: &str, function: usize, calls: &[[usize; 6]]| {
-        let bytes = calls.iter().map(|args| stack::taken(function, *args)).max().unwrap_or(0);
-        println!("| dunrossel_{name} | {bytes} |");
-    };
-    most("normalise", c::dunrossel_normalise as *const () as usize, &[on(&word), on(&any)]);
-    most("phase_free", c::dunrossel_phase_free as *const () as usize, &[on(&word), on(&any)]);
-    most("synthesise", c::dunrossel_synthesise as *const () as usize, &[of]);
-    most("reduce", c::dunrossel_reduce as *const () as usize, &[[of[0], of[1], z, m, 0, 0]]);
-    most("view", c::dunrossel_view as *const () as usize, &[[of[0], of[1], z, o, 0, 0]]);
-    let shallow = random.word(b"HSXWI", 4096);
-    most("matrix", c::dunrossel_matrix as *const () as usize, &[[shallow.as_ptr() as usize, 4096, m, o, 0, 0]]);
-    most("bench", c::dunrossel_bench as *const () as usize, &[[record.as_ptr() as usize, record.len(), b, 0, 0, 0]]);
-    let x = [1i32, 1, 0, 0];
-    let x = x.as_ptr() as usize;
-    most("clifford_product", c::dunrossel_clifford_product as *const () as usize, &[[x, x, o, 0, 0, 0]]);
-    most("clifford_inverse", c::dunrossel_clifford_inverse as *const () as usize, &[[x, o, 0, 0, 0, 0]]);
-    most("clifford_coset", c::dunrossel_clifford_coset as *const () as usize, &[[x, o, 0, 0, 0, 0]]);
-}
-
-fn main() {
-    races();
-    stacks();
-}

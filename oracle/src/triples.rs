@@ -43,6 +43,9 @@ fn reduce(report: &mut Report, triple: &Triple, expected: &Result<[i64; 10], u8>
         Ok(_) => "job 1 reduce: equal to the Rust, exponent lowered",
         Err(number) => refused_kind(*number, triple),
     };
+    if expected.is_err() {
+        report.first(kind, || format!("k = {k}, n = {n}, {zw:?}"));
+    }
     let expected = match expected {
         Ok(numbers) => (0, *numbers),
         Err(number) => (*number, [0; 10]),
@@ -101,11 +104,17 @@ fn synthesise(report: &mut Report, triple: &Triple, reduced: &Result<[i64; 10], 
     let numbers = match reduced {
         Ok(numbers) => numbers,
         Err(number) => {
-            let kind = match number {
-                3 => "job 4 synthesise: refused 3 Exponent",
-                4 => "job 4 synthesise: refused 4 Coefficient",
-                _ => "job 4 synthesise: refused 5 Unitary",
+            let kind = match (number, rust::synthesis_panics(*k, *n, zw)) {
+                (3, Some(true)) => "job 4 synthesise: refused 3 Exponent, the Rust panics",
+                (3, Some(false)) => "job 4 synthesise: refused 3 Exponent, the Rust answers",
+                (3, None) => "job 4 synthesise: refused 3 Exponent, the Rust not asked",
+                (4, Some(true)) => "job 4 synthesise: refused 4 Coefficient, the Rust panics",
+                (4, Some(false)) => "job 4 synthesise: refused 4 Coefficient, the Rust answers",
+                (_, Some(true)) => "job 4 synthesise: refused 5 Unitary, the Rust panics",
+                (_, Some(false)) => "job 4 synthesise: refused 5 Unitary, the Rust answers",
+                _ => "job 4 synthesise: refused 4 or 5, the Rust makes 1,000 steps without an end",
             };
+            report.first(kind, || format!("k = {k}, n = {n}, {zw:?}"));
             let room = if which == Rooms::All { 0 } else { 376 };
             let answer = abi::synthesise(*k, *n, zw, room, &Written::refused(*number, 0));
             return report.case(kind, answer.map(|d| at(room, d)));
@@ -115,7 +124,9 @@ fn synthesise(report: &mut Report, triple: &Triple, reduced: &Result<[i64; 10], 
     let kind = if numbers[0] == *k {
         "job 4 synthesise: equal to the Rust"
     } else {
-        unreduced_kind(report, triple, &word)
+        let kind = unreduced_kind(report, triple, &word);
+        report.first(kind, || format!("k = {k}, n = {n}, {zw:?}"));
+        kind
     };
     let rooms = match which {
         Rooms::All => vec![word.len(), 376, word.len() + 1, word.len() - 1, word.len() / 2, 0],

@@ -105,6 +105,9 @@ pub fn normalise(report: &mut Report, word: &[u8], which: Rooms) {
             (_, true, false) => "job 3 normalise: SHT arm taken, the Rust differs, exact arithmetic agrees with ours",
             (_, true, true) => "job 3 normalise: SHT arm taken, the Rust happens to agree",
         };
+        if normal.arm {
+            report.first(kind, || format!("{} gives {}", name(word), name(&normal.word)));
+        }
         let at = |d: String| format!("{} room {room}: {d}", name(word));
         report.case(kind, abi::normalise(word, room, &expected).map(at));
     }

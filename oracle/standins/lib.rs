@@ -45,6 +45,17 @@ pub mod synthesis_of_clifford_t {
     pub mod access {
         use super::*;
 
+        /// Whether the published steps come to k = 0 in at most this many. A triple that is not unitary promises no end.
+        pub fn ends(mut u: DOmegaUnitary, most: usize) -> bool {
+            for _ in 0..most {
+                if u.k() <= 0 {
+                    return true;
+                }
+                u = reduce_denomexp(u).1;
+            }
+            false
+        }
+
         /// The letters that `decompose_domega_unitary` hands to `NormalForm::from_gates`: its own steps,
         /// and then its rule at k = 0 written again.
         pub fn letters(mut u: DOmegaUnitary) -> String {
