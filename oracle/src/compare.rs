@@ -35,10 +35,10 @@ fn every_run(report: &mut Report) {
     integers::laws(report);
     timed(report, "every word of up to 7 letters", |r| runs::every_word(r, 7));
     timed(report, "words that reach every arm", runs::every_arm);
-    timed(report, "random words", |r| runs::random_lengths(r, 100));
+    timed(report, "random words", |r| runs::random_lengths(r, 150));
     timed(report, "words around 4,096 letters", |r| runs::around_long(r, 4));
     timed(report, "bytes that are no letters", runs::letters);
-    timed(report, "words around exponent 60", |r| runs::around_deep(r, 6));
+    timed(report, "words around exponent 60", |r| runs::around_deep(r, 30));
     timed(report, "triples at the edges", runs::triple_edges);
     timed(report, "triples of up to 4 T", |r| runs::few_t(r, 4));
     timed(report, "random triples to exponent 60", |r| runs::deep(r, 60));

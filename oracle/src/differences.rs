@@ -52,15 +52,12 @@ pub fn all(report: &mut Report) {
     say(
         report,
         "listed: another byte in a word panics in the Rust, is refused 2 here",
-        given("A").is_none()
-            && rust::matrix("A").is_none()
-            && abi::matrix(b"A") == Some((2, [0; 10], 0)),
+        given("A").is_none() && rust::matrix("A").is_none() && abi::matrix(b"A") == Some((2, [0; 10], 0)),
     );
     say(
         report,
         "listed: z = w = 1 at k = 0 panics in the Rust's synthesis, is refused 5 here",
-        rust::synthesise(0, 0, &both).is_none()
-            && abi::synthesise(0, 0, &both, 1, &Written::refused(5, 0)).is_none(),
+        rust::synthesise(0, 0, &both).is_none() && abi::synthesise(0, 0, &both, 1, &Written::refused(5, 0)).is_none(),
     );
     say(
         report,
@@ -82,5 +79,32 @@ pub fn all(report: &mut Report) {
         "listed: HT 120 times has k = 61 in the Rust, is refused 6 here",
         rust::matrix(&deep).flatten().map(|m| m[0]) == Some(61)
             && abi::matrix(deep.as_bytes()) == Some((6, [0; 10], 0)),
+    );
+    let twice = [0, 0, 0, 2, 0, 0, 0, 0];
+    say(
+        report,
+        "listed: the identity at k = 2 is I in the Rust and here",
+        rust::synthesise(2, 0, &twice).as_deref() == Some(b"I")
+            && abi::synthesise(2, 0, &twice, 1, &word("I")).is_none(),
+    );
+    let big = 1i64 << 30;
+    let deeper = [0, -big, 0, 0, big, 0, 0, 0];
+    say(
+        report,
+        "listed: k = 61 is answered by the Rust, refused 3 here",
+        rust::reduce(61, 0, &deeper).is_some()
+            && rust::synthesise(61, 0, &deeper).is_some()
+            && abi::reduce(61, 0, &deeper) == Some((3, [0; 10])),
+    );
+    let larger = [0, 0, 0, big + 1, 0, 0, 0, 0];
+    say(
+        report,
+        "listed: coefficient 2^30+1 is answered by the Rust's reduction, refused 4 here",
+        rust::reduce(0, 0, &larger).is_some() && abi::reduce(0, 0, &larger) == Some((4, [0; 10])),
+    );
+    say(
+        report,
+        "listed: T is TI in the Rust, and refused 7 here with room for one byte",
+        given("T").as_deref() == Some("TI") && abi::normalise(b"T", 1, &Written::refused(7, 0)).is_none(),
     );
 }

@@ -94,24 +94,8 @@ pub fn cliffords() -> Vec<[i32; 4]> {
     (0..192).map(|i| [i / 64, i / 32 % 2, i / 8 % 4, i % 8]).collect()
 }
 
-pub const EDGES: [i32; 16] = [
-    i32::MIN,
-    i32::MIN + 1,
-    i32::MIN + 2,
-    -9,
-    -4,
-    -2,
-    -1,
-    0,
-    1,
-    2,
-    3,
-    7,
-    8,
-    i32::MAX - 2,
-    i32::MAX - 1,
-    i32::MAX,
-];
+pub const EDGES: [i32; 16] =
+    [i32::MIN, i32::MIN + 1, i32::MIN + 2, -9, -4, -2, -1, 0, 1, 2, 3, 7, 8, i32::MAX - 2, i32::MAX - 1, i32::MAX];
 
 pub type Triple = (i64, u8, [i64; 8]);
 

@@ -219,7 +219,8 @@ pub fn deep(report: &mut Report, each: usize) {
 pub fn triple_edges(report: &mut Report) {
     let big = 1i64 << 30;
     let numbers = [i64::MIN, i64::MIN + 1, -big - 1, -big, -1, 0, 1, big - 1, big, big + 1, 1 << 31, 1 << 62, i64::MAX];
-    let exponents = [i64::MIN, i64::MIN + 1, -1000, -2, -1, 0, 1, 2, 58, 59, 60, 61, 62, 63, 64, 65, i64::MAX - 1, i64::MAX];
+    let exponents =
+        [i64::MIN, i64::MIN + 1, -1000, -2, -1, 0, 1, 2, 58, 59, 60, 61, 62, 63, 64, 65, i64::MAX - 1, i64::MAX];
     for k in exponents {
         for at in 0..8 {
             for x in numbers {
@@ -301,12 +302,26 @@ pub fn bench_records(report: &mut Report, each: usize) {
         let text: String = [0, 2, 4, 6].iter().map(|s| lines[order >> s & 3]).collect();
         records::bench(report, text.as_bytes());
     }
-    for number in ["9223372036854775807", "-9223372036854775808", "9223372036854775808", "-9223372036854775809", "00", "-0",
-        "256", "255", "-1", "18446744073709551616", "18446744073709551617", "1e1", "0x1", ""]
-    {
+    for number in [
+        "9223372036854775807",
+        "-9223372036854775808",
+        "9223372036854775808",
+        "-9223372036854775809",
+        "00",
+        "-0",
+        "256",
+        "255",
+        "-1",
+        "18446744073709551616",
+        "18446744073709551617",
+        "1e1",
+        "0x1",
+        "",
+    ] {
         for (i, l) in lines.iter().enumerate() {
             let value = l.rfind(['=', ',']).unwrap() + 1;
-            let text: String = (0..4).map(|j| if i == j { format!("{}{number}\n", &l[..value]) } else { lines[j].into() }).collect();
+            let text: String =
+                (0..4).map(|j| if i == j { format!("{}{number}\n", &l[..value]) } else { lines[j].into() }).collect();
             records::bench(report, text.as_bytes());
         }
     }

@@ -158,9 +158,17 @@ fn main() {
     for (len, n, turns) in [(20, 400, 20), (200, 100, 10), (4096, 20, 3)] {
         let inputs = words(&mut random, JOB_3, len, n);
         let name = format!("normalise, {len} random letters");
-        race(name, len as f64, &inputs, turns, |w| normalise(w), |w| text(w), |w| {
-            black_box(NormalForm::from_gates(w).to_gates());
-        });
+        race(
+            name,
+            len as f64,
+            &inputs,
+            turns,
+            |w| normalise(w),
+            |w| text(w),
+            |w| {
+                black_box(NormalForm::from_gates(w).to_gates());
+            },
+        );
     }
     for k in [10, 30, 60] {
         let inputs = triples(&mut random, k, 100);
@@ -177,12 +185,19 @@ fn main() {
     ] {
         let inputs = words(&mut random, letters, len, n);
         let name = format!("word to matrix, {name}");
-        race(name, len as f64, &inputs, 3, |w| matrix(w), |w| text(w), |w| {
-            black_box(DOmegaUnitary::from_gates(w));
-        });
+        race(
+            name,
+            len as f64,
+            &inputs,
+            3,
+            |w| matrix(w),
+            |w| text(w),
+            |w| {
+                black_box(DOmegaUnitary::from_gates(w));
+            },
+        );
     }
     for k in [10, 60] {
         alone(format!("numeric view, k = {k}"), &triples(&mut random, k, 100), 50, view);
     }
 }
-

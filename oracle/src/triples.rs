@@ -77,6 +77,9 @@ pub fn synthesised(report: &mut Report, numbers: &[i64; 10]) -> Vec<u8> {
         report.differs("job 4", format!("{numbers:?}: the Rust panics"));
         return Vec::new();
     };
+    if std::str::from_utf8(&letters).ok().and_then(rust::normal_word).as_ref() != Some(&word) {
+        report.differs("job 4", format!("{numbers:?}: the letters before normalising are not the Rust's"));
+    }
     let arms = rust::arms(&letters);
     let removed = arms.after_t + arms.after_ht + arms.after_sht;
     report.note("job 4: T letters of the Rust's letters before normalising that remove a syllable", removed);

@@ -105,7 +105,7 @@ pub fn normalise(report: &mut Report, word: &[u8], which: Rooms) {
             (_, true, false) => "job 3 normalise: SHT arm taken, the Rust differs, exact arithmetic agrees with ours",
             (_, true, true) => "job 3 normalise: SHT arm taken, the Rust happens to agree",
         };
-        if normal.arm {
+        if normal.arm && expected.refusal == 0 {
             report.first(kind, || format!("{} gives {}", name(word), name(&normal.word)));
         }
         let at = |d: String| format!("{} room {room}: {d}", name(word));
@@ -131,10 +131,7 @@ fn refused_kinds(
     panics: impl FnOnce(&str) -> bool,
 ) -> (&'static str, &'static str) {
     if number == 1 {
-        return (
-            "job 3 normalise: refused 1 Long (the Rust has no limit)",
-            "job 5 phase-free: refused 1 Long",
-        );
+        return ("job 3 normalise: refused 1 Long (the Rust has no limit)", "job 5 phase-free: refused 1 Long");
     }
     let kind_5 = "job 5 phase-free: refused 2 Letter";
     let Ok(text) = from_utf8(word) else {

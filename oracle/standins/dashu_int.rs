@@ -87,15 +87,17 @@ fn held(mut v: Vec<u64>) -> IBig {
 fn add_limbs(x: &[u64], y: &[u64], flip: bool) -> IBig {
     let mut carry = flip;
     let size = x.len().max(y.len()) + 1;
-    held((0..size)
-        .map(|i| {
-            let other = if flip { !limb(y, i) } else { limb(y, i) };
-            let (s, over) = limb(x, i).overflowing_add(other);
-            let (s, again) = s.overflowing_add(carry as u64);
-            carry = over || again;
-            s
-        })
-        .collect())
+    held(
+        (0..size)
+            .map(|i| {
+                let other = if flip { !limb(y, i) } else { limb(y, i) };
+                let (s, over) = limb(x, i).overflowing_add(other);
+                let (s, again) = s.overflowing_add(carry as u64);
+                carry = over || again;
+                s
+            })
+            .collect(),
+    )
 }
 
 fn add(x: &IBig, y: &IBig) -> IBig {
@@ -177,12 +179,18 @@ fn shr(x: &IBig, n: usize) -> IBig {
     let (v, bits) = (x.limbs(), n % 64);
     let from = n / 64;
     let size = v.len().saturating_sub(from).max(1);
-    held((from..from + size)
-        .map(|i| {
-            let here = limb(&v, i);
-            if bits == 0 { here } else { here >> bits | limb(&v, i + 1) << (64 - bits) }
-        })
-        .collect())
+    held(
+        (from..from + size)
+            .map(|i| {
+                let here = limb(&v, i);
+                if bits == 0 {
+                    here
+                } else {
+                    here >> bits | limb(&v, i + 1) << (64 - bits)
+                }
+            })
+            .collect(),
+    )
 }
 
 macro_rules! operator {

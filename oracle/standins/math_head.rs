@@ -6,4 +6,3 @@ use dashu_int::IBig;
 pub fn pow_sqrt2(_: i64) -> FBig<HalfEven> {
     unimplemented!()
 }
-
