@@ -1,0 +1,288 @@
+//! The library's exports, each called with guarded memory: what a call may write is filled with a pattern before,
+//! and looked at after. One wrong answer can be planted here, to see that it is found.
+
+use crate::library::{Library, Word, IN, LENT, OUT, PLACE};
+use std::cell::RefCell;
+
+const GUARD: usize = 32;
+
+/// What stands in lent memory before a call: no letter, and not the same from byte to byte.
+fn pattern(i: usize) -> u8 {
+    0x80 | (i * 37 + 11) as u8
+}
+
+/// What stands in an out array before a call, and behind it after.
+const STALE: u8 = 0xa5;
+const OUT_BYTES: usize = 128;
+
+/// Where a wrong answer is planted: at the call of this job with this number, in this part of the answer.
+#[derive(Clone, Copy, PartialEq, Debug)]
+pub struct Plant {
+    pub job: Job,
+    pub call: u64,
+    pub part: Part,
+}
+
+#[derive(Clone, Copy, PartialEq, Eq, Debug)]
+pub enum Job {
+    Reduce,
+    Matrix,
+    Normalise,
+    PhaseFree,
+    Synthesise,
+    Product,
+    Inverse,
+    Coset,
+    View,
+    Bench,
+}
+
+pub const JOBS: [Job; 10] = [
+    Job::Reduce,
+    Job::Matrix,
+    Job::Normalise,
+    Job::PhaseFree,
+    Job::Synthesise,
+    Job::Product,
+    Job::Inverse,
+    Job::Coset,
+    Job::View,
+    Job::Bench,
+];
+
+/// The refusal number; one of the numbers; the first byte of the lent buffer; the first byte beyond the length;
+/// the byte after the lent memory.
+#[derive(Clone, Copy, PartialEq, Eq, Debug)]
+pub enum Part {
+    Refusal,
+    Number(usize),
+    Byte,
+    Beyond,
+    After,
+}
+
+struct State {
+    library: Library,
+    lent: usize,
+    length: usize,
+    result: u64,
+    plant: Option<Plant>,
+    calls: [u64; JOBS.len()],
+}
+
+thread_local! {
+    static STATE: RefCell<State> = RefCell::new(State {
+        library: Library::start(),
+        lent: 0,
+        length: 0,
+        result: 0,
+        plant: None,
+        calls: [0; JOBS.len()],
+    });
+}
+
+pub fn set_plant(plant: Option<Plant>) {
+    STATE.with_borrow_mut(|s| {
+        s.plant = plant;
+        s.calls = [0; JOBS.len()];
+    })
+}
+
+impl State {
+    /// The part to spoil in this call's answer, if any.
+    fn turn(&mut self, job: Job) -> Option<Part> {
+        self.calls[job as usize] += 1;
+        self.plant.filter(|p| p.job == job && p.call == self.calls[job as usize]).map(|p| p.part)
+    }
+
+    /// Puts a call's input, fills what it may write, calls, and plants what is to be planted. None where a guard
+    /// of an out array or the input itself was written to; else the result and the first N numbers.
+    fn numbers<T: Number, const N: usize>(&mut self, job: Job, input: &[u8], args: &[Word]) -> Option<(u8, [T; N])> {
+        self.library.memory()[IN..IN + input.len()].copy_from_slice(input);
+        self.library.memory()[OUT..OUT + OUT_BYTES].fill(STALE);
+        self.result = self.library.call(job, args);
+        let part = self.turn(job);
+        let memory = self.library.memory();
+        let mut refusal = self.result as u8;
+        let size = std::mem::size_of::<T>();
+        let mut numbers = [0; N].map(|_: u8| T::default());
+        for (i, x) in numbers.iter_mut().enumerate() {
+            *x = T::read(&memory[OUT + i * size..OUT + (i + 1) * size]);
+        }
+        match part {
+            Some(Part::Refusal) => refusal ^= 1,
+            Some(Part::Number(i)) if i < N => numbers[i].spoil(),
+            Some(Part::Number(_)) if job == Job::Matrix => memory[PLACE] ^= 1,
+            Some(Part::Number(_)) => self.result ^= 1,
+            Some(Part::Byte) => memory[LENT + GUARD] ^= 1,
+            Some(Part::Beyond) => memory[LENT + GUARD + self.length] ^= 1,
+            Some(Part::After) => memory[LENT + GUARD + self.lent] ^= 1,
+            _ => {}
+        }
+        let behind = &memory[OUT + N * size..OUT + OUT_BYTES];
+        let whole = behind.iter().all(|b| *b == STALE) && memory[IN..IN + input.len()] == *input;
+        whole.then_some((refusal, numbers))
+    }
+
+    /// Fills lent memory of this size and the guards before and after it; an answer of this length is expected.
+    fn lend(&mut self, size: usize, length: usize) {
+        (self.lent, self.length) = (size, length);
+        let all = &mut self.library.memory()[LENT..LENT + size + 2 * GUARD];
+        all.iter_mut().enumerate().for_each(|(i, b)| *b = pattern(i));
+    }
+
+    /// The first bytes are these, and every other one within and around the lent part is as it was.
+    fn holds(&mut self, written: &[u8]) -> bool {
+        let size = self.lent;
+        let all = &self.library.memory()[LENT..LENT + size + 2 * GUARD];
+        let end = GUARD + written.len();
+        let same = |from: usize, to: usize| (from..to).all(|i| all[i] == pattern(i));
+        written.len() <= size && all[GUARD..end] == *written && same(0, GUARD) && same(end, all.len())
+    }
+
+    fn shown(&mut self, n: usize) -> String {
+        let n = n.min(self.lent);
+        String::from_utf8_lossy(&self.library.memory()[LENT + GUARD..LENT + GUARD + n]).into_owned()
+    }
+}
+
+trait Number: Default {
+    fn read(bytes: &[u8]) -> Self;
+    fn spoil(&mut self);
+}
+macro_rules! numbers {
+    ($($t:ty),*) => { $(impl Number for $t {
+        fn read(bytes: &[u8]) -> $t {
+            <$t>::from_ne_bytes(bytes.try_into().unwrap())
+        }
+        fn spoil(&mut self) {
+            *self ^= 1;
+        }
+    })* };
+}
+numbers!(i64, u64, i32);
+impl Number for f64 {
+    fn read(bytes: &[u8]) -> f64 {
+        f64::from_ne_bytes(bytes.try_into().unwrap())
+    }
+    fn spoil(&mut self) {
+        *self += f64::powi(2.0, -49);
+    }
+}
+
+fn bytes<const N: usize, T: Copy, const M: usize>(x: &[T], of: impl Fn(T) -> [u8; N]) -> [u8; M] {
+    let mut all = [0; M];
+    x.iter().enumerate().for_each(|(i, v)| all[i * N..(i + 1) * N].copy_from_slice(&of(*v)));
+    all
+}
+
+fn triple(k: i64, n: u8, zw: &[i64; 8]) -> ([u8; 64], [Word; 4]) {
+    (bytes(zw, i64::to_ne_bytes), [Word::Number(k as u64), Word::Number(n as u64), Word::At(IN), Word::At(OUT)])
+}
+
+/// Refusal number and numbers; none where memory was written that is not the answer's.
+pub fn reduce(k: i64, n: u8, zw: &[i64; 8]) -> Option<(u8, [i64; 10])> {
+    let (input, args) = triple(k, n, zw);
+    STATE.with_borrow_mut(|s| s.numbers(Job::Reduce, &input, &args))
+}
+
+/// As `reduce`, with the place last.
+pub fn matrix(word: &[u8]) -> Option<(u8, [i64; 10], u64)> {
+    let args = [Word::At(IN), Word::Number(word.len() as u64), Word::At(OUT), Word::At(PLACE)];
+    STATE.with_borrow_mut(|s| {
+        s.library.memory()[PLACE..PLACE + 16].fill(STALE);
+        let (refusal, numbers) = s.numbers(Job::Matrix, word, &args)?;
+        let place = &s.library.memory()[PLACE..PLACE + 16];
+        let behind = place[8..].iter().all(|b| *b == STALE);
+        behind.then(|| (refusal, numbers, u64::read(&place[..8])))
+    })
+}
+
+pub fn view(k: i64, n: u8, zw: &[i64; 8]) -> Option<(u8, [f64; 8])> {
+    let (input, args) = triple(k, n, zw);
+    STATE.with_borrow_mut(|s| s.numbers(Job::View, &input, &args))
+}
+
+fn clifford<const N: usize>(job: Job, x: &[i32; 4], y: &[i32; 4], args: &[Word]) -> Option<[i32; N]> {
+    let input: [u8; 32] = bytes(&[*x, *y].concat(), i32::to_ne_bytes);
+    STATE.with_borrow_mut(|s| s.numbers(job, &input, args)).map(|(_, numbers)| numbers)
+}
+
+pub fn product(x: &[i32; 4], y: &[i32; 4]) -> Option<[i32; 4]> {
+    clifford(Job::Product, x, y, &[Word::At(IN), Word::At(IN + 16), Word::At(OUT)])
+}
+
+pub fn inverse(x: &[i32; 4]) -> Option<[i32; 4]> {
+    clifford(Job::Inverse, x, x, &[Word::At(IN), Word::At(OUT)])
+}
+
+pub fn coset(x: &[i32; 4]) -> Option<[i32; 5]> {
+    clifford(Job::Coset, x, x, &[Word::At(IN), Word::At(OUT)])
+}
+
+/// What a job that writes a word must answer.
+#[derive(Clone, PartialEq, Debug, Default)]
+pub struct Written {
+    pub refusal: u8,
+    pub place: u64,
+    pub word: Vec<u8>,
+}
+
+impl Written {
+    pub fn refused(refusal: u8, place: usize) -> Written {
+        Written { refusal, place: place as u64, word: Vec::new() }
+    }
+
+    pub fn numbers(&self) -> [u64; 3] {
+        let t = self.word.iter().filter(|g| **g == b'T').count();
+        [self.place, self.word.len() as u64, t as u64]
+    }
+}
+
+/// Calls a job that writes a word and compares everything it can have changed; the difference as text if there is one.
+fn writes(job: Job, room: usize, expected: &Written, input: &[u8], args: &[Word]) -> Option<String> {
+    STATE.with_borrow_mut(|s| {
+        s.lend(room, expected.word.len());
+        let wanted = expected.numbers();
+        let got = s.numbers(job, input, args);
+        let lent = s.holds(&expected.word);
+        if got == Some((expected.refusal, wanted)) && lent {
+            return None;
+        }
+        let shown = got.map_or(String::new(), |(_, out)| s.shown(out[1] as usize));
+        let word = String::from_utf8_lossy(&expected.word);
+        let memory = if lent { "right" } else { "wrong" };
+        Some(format!("expected {} {wanted:?} {word}, got {got:?} {shown}, lent memory {memory}", expected.refusal))
+    })
+}
+
+fn word_args(word: &[u8], room: usize) -> [Word; 5] {
+    let [len, room] = [word.len(), room].map(|n| Word::Number(n as u64));
+    [Word::At(IN), len, Word::At(LENT + GUARD), room, Word::At(OUT)]
+}
+
+pub fn normalise(word: &[u8], room: usize, expected: &Written) -> Option<String> {
+    writes(Job::Normalise, room, expected, word, &word_args(word, room))
+}
+
+pub fn phase_free(word: &[u8], room: usize, expected: &Written) -> Option<String> {
+    writes(Job::PhaseFree, room, expected, word, &word_args(word, room))
+}
+
+pub fn synthesise(k: i64, n: u8, zw: &[i64; 8], room: usize, expected: &Written) -> Option<String> {
+    let (input, [k, n, zw, out]) = triple(k, n, zw);
+    writes(Job::Synthesise, room, expected, &input, &[k, n, zw, Word::At(LENT + GUARD), Word::Number(room as u64), out])
+}
+
+/// The bench record's answer against the expected text.
+pub fn bench(record: &[u8], expected: &[u8]) -> Option<String> {
+    let args = [Word::At(IN), Word::Number(record.len() as u64), Word::At(LENT + GUARD)];
+    STATE.with_borrow_mut(|s| {
+        s.lend(512, expected.len());
+        let untouched = s.numbers::<u64, 0>(Job::Bench, record, &args).is_some();
+        let size = s.result as usize;
+        let right = untouched && size == expected.len() && s.holds(expected);
+        let shown = s.shown(size);
+        (!right).then(|| format!("expected {:?}, got {size} {shown:?}", String::from_utf8_lossy(expected)))
+    })
+}

@@ -1,0 +1,89 @@
+//! Compares the library with the published Rust, case by case, and prints how many of each kind there were.
+//!
+//!     compare                      every comparison; status 1 if a difference is left that nothing explains
+//!     compare --plant JOB:CALL:PART    the same, with one wrong answer planted
+//!     compare --sample DIR         writes the replay sample to DIR/stdin and DIR/stdout
+
+mod abi;
+mod cliffords;
+mod differences;
+mod exact;
+mod inputs;
+mod integers;
+mod library;
+mod plants;
+mod records;
+mod report;
+mod runs;
+mod rust;
+mod sample;
+mod triples;
+mod view;
+mod words;
+
+use report::Report;
+use std::process::ExitCode;
+use std::time::Instant;
+
+fn timed(report: &mut Report, what: &str, run: impl FnOnce(&mut Report)) {
+    let (start, before) = (Instant::now(), report.cases);
+    run(report);
+    println!("  {what}: {} cases, {:.1} s", report.cases - before, start.elapsed().as_secs_f64());
+}
+
+fn every_run(report: &mut Report) {
+    integers::laws(report);
+    timed(report, "every word of up to 7 letters", |r| runs::every_word(r, 7));
+    timed(report, "words that reach every arm", runs::every_arm);
+    timed(report, "random words", |r| runs::random_lengths(r, 150));
+    timed(report, "words around 4,096 letters", |r| runs::around_long(r, 4));
+    timed(report, "bytes that are no letters", runs::letters);
+    timed(report, "words around exponent 60", |r| runs::around_deep(r, 30));
+    timed(report, "triples at the edges", runs::triple_edges);
+    timed(report, "triples of up to 4 T", |r| runs::few_t(r, 4));
+    timed(report, "random triples to exponent 60", |r| runs::deep(r, 60));
+    timed(report, "Cliffords", |r| runs::all_cliffords(r, 16));
+    timed(report, "bench records", |r| runs::bench_records(r, 3000));
+    timed(report, "listed differences", differences::all);
+}
+
+fn compare(plant: Option<abi::Plant>) -> ExitCode {
+    let start = Instant::now();
+    abi::set_plant(plant);
+    let mut report = Report::default();
+    every_run(&mut report);
+    report.print();
+    let found = if plant.is_none() { plants::all() } else { true };
+    println!(
+        "oracle: {} cases, {} unexplained differences, {:.0} s",
+        report.cases,
+        report.unexplained,
+        start.elapsed().as_secs_f64()
+    );
+    if report.unexplained == 0 && found {
+        ExitCode::SUCCESS
+    } else {
+        ExitCode::FAILURE
+    }
+}
+
+fn main() -> ExitCode {
+    rust::quiet();
+    let args: Vec<String> = std::env::args().skip(1).collect();
+    match args.iter().map(String::as_str).collect::<Vec<_>>()[..] {
+        [] => compare(None),
+        ["--plant", text] => match plants::parsed(text) {
+            Some(plant) => compare(Some(plant)),
+            None => usage(),
+        },
+        ["--sample", folder] => sample::write(folder),
+        _ => usage(),
+    }
+}
+
+fn usage() -> ExitCode {
+    eprintln!("compare [--plant JOB:CALL:PART | --sample DIR]");
+    eprintln!("JOB: reduce matrix normalise phasefree synthesise product inverse coset view bench");
+    eprintln!("PART: refusal, number, byte, beyond, after");
+    ExitCode::from(2)
+}

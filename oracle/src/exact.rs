@@ -1,0 +1,161 @@
+//! Exact arithmetic of the harness's own, from document 01's definitions: two by two matrices of ring numbers
+//! over a power of root two, the letters as matrices, and the shape of normal words. Nothing here is the Rust's.
+
+use dashu_int::IBig;
+
+/// a·omega^3 + b·omega^2 + c·omega + d.
+#[derive(Clone, PartialEq)]
+pub struct Number(pub [IBig; 4]);
+
+impl Number {
+    pub fn of(x: &[i64]) -> Number {
+        Number([0, 1, 2, 3].map(|i| IBig::from(x[i])))
+    }
+
+    pub fn zero() -> Number {
+        Number::of(&[0; 4])
+    }
+
+    fn add(&self, r: &Number) -> Number {
+        Number([0, 1, 2, 3].map(|i| &self.0[i] + &r.0[i]))
+    }
+
+    fn neg(&self) -> Number {
+        Number([0, 1, 2, 3].map(|i| -&self.0[i]))
+    }
+
+    pub fn times_omega(&self, power: u8) -> Number {
+        let mut v = self.clone();
+        for _ in 0..power & 7 {
+            let [a, b, c, d] = v.0;
+            v = Number([b, c, d, -a]);
+        }
+        v
+    }
+
+    fn conjugate(&self) -> Number {
+        let [a, b, c, d] = &self.0;
+        Number([-c, -b, -a, d.clone()])
+    }
+
+    fn even(&self) -> bool {
+        let [a, b, c, d] = &self.0;
+        a.is_odd() == c.is_odd() && b.is_odd() == d.is_odd()
+    }
+
+    fn over_root_two(&self) -> Number {
+        let [a, b, c, d] = &self.0;
+        Number([(b - d) >> 1, (c + a) >> 1, (b + d) >> 1, (c - a) >> 1])
+    }
+
+    fn times(&self, r: &Number) -> Number {
+        let mut sum = Number::zero();
+        for (i, x) in self.0.iter().enumerate() {
+            let part = Number([0, 1, 2, 3].map(|j| x * &r.0[j]));
+            sum = sum.add(&part.times_omega(3 - i as u8));
+        }
+        sum
+    }
+}
+
+/// Four entries, row by row, over root two to the k.
+#[derive(Clone, PartialEq)]
+pub struct Matrix {
+    pub e: [Number; 4],
+    pub k: i64,
+}
+
+impl Matrix {
+    pub fn identity() -> Matrix {
+        Matrix::triple(0, 0, &[0, 0, 0, 1, 0, 0, 0, 0])
+    }
+
+    /// Rows [z, -w*·omega^n] and [w, z*·omega^n].
+    pub fn triple(k: i64, n: u8, zw: &[i64]) -> Matrix {
+        let (z, w) = (Number::of(&zw[..4]), Number::of(&zw[4..]));
+        let (right, below) = (w.conjugate().neg().times_omega(n), z.conjugate().times_omega(n));
+        Matrix { e: [z, right, w, below], k }
+    }
+
+    /// The letter's matrix times this one, kept reduced.
+    pub fn under(self, letter: u8) -> Matrix {
+        let k = self.k;
+        let [p, q, r, s] = self.e;
+        let e = match letter {
+            b'I' => [p, q, r, s],
+            b'T' => [p, q, r.times_omega(1), s.times_omega(1)],
+            b'S' => [p, q, r.times_omega(2), s.times_omega(2)],
+            b'W' => [p, q, r, s].map(|x| x.times_omega(1)),
+            b'X' => [r, s, p, q],
+            b'H' => {
+                let e = [p.add(&r), q.add(&s), p.add(&r.neg()), q.add(&s.neg())];
+                return Matrix { e, k: k + 1 }.reduced();
+            }
+            _ => panic!("not a letter: {letter}"),
+        };
+        Matrix { e, k }
+    }
+
+    pub fn reduced(mut self) -> Matrix {
+        while self.k > 0 && self.e.iter().all(Number::even) {
+            self = Matrix { e: self.e.map(|x| x.over_root_two()), k: self.k - 1 };
+        }
+        self
+    }
+
+    pub fn word(word: &[u8]) -> Matrix {
+        word.iter().rev().fold(Matrix::identity(), |m, g| m.under(*g))
+    }
+
+    pub fn times(&self, r: &Matrix) -> Matrix {
+        let at = |i: usize, j: usize| self.e[2 * i].times(&r.e[j]).add(&self.e[2 * i + 1].times(&r.e[2 + j]));
+        Matrix { e: [at(0, 0), at(0, 1), at(1, 0), at(1, 1)], k: self.k + r.k }.reduced()
+    }
+
+    /// E^a X^b S^c omega^d, with E = H·S^3·omega^3.
+    pub fn clifford(x: &[u8; 4]) -> Matrix {
+        let word = b"HSSSWWW".repeat(x[0] as usize);
+        let tail = [(b'X', x[1]), (b'S', x[2]), (b'W', x[3])];
+        Matrix::word(&tail.iter().fold(word, |w, (g, n)| [w, vec![*g; *n as usize]].concat()))
+    }
+}
+
+/// Every matrix that a word's endings have is at most this deep, or the rightmost start of one that is deeper.
+pub fn word_within(word: &[u8], deepest: i64) -> Result<Matrix, usize> {
+    let mut m = Matrix::identity();
+    for (i, g) in word.iter().enumerate().rev() {
+        m = m.under(*g);
+        if m.k > deepest {
+            return Err(i);
+        }
+    }
+    Ok(m)
+}
+
+fn strip<'a>(word: &'a [u8], letter: u8, most: usize) -> &'a [u8] {
+    let n = word.iter().take(most).take_while(|g| **g == letter).count();
+    &word[n..]
+}
+
+/// At most one T, then HT and SHT, then the tail: nothing, H or SH, X, S to 3, W to 7; an empty tail written I.
+pub fn is_normal(word: &[u8]) -> bool {
+    let mut rest = strip(word, b'T', 1);
+    while let Some(after) = rest.strip_prefix(b"HT").or(rest.strip_prefix(b"SHT")) {
+        rest = after;
+    }
+    if rest == b"I" {
+        return true;
+    }
+    let tail = rest.strip_prefix(b"H").or(rest.strip_prefix(b"SH")).unwrap_or(rest);
+    !rest.is_empty() && strip(strip(strip(tail, b'X', 1), b'S', 3), b'W', 7).is_empty()
+}
+
+/// Document 01's unitarity, for coefficients of at most 2^30.
+pub fn is_unitary(k: i64, zw: &[i64; 8]) -> bool {
+    let squares: i128 = zw.iter().map(|x| *x as i128 * *x as i128).sum();
+    let cross = |v: &[i64]| {
+        let [a, b, c, d] = [0, 1, 2, 3].map(|i| v[i] as i128);
+        a * b + b * c + c * d - d * a
+    };
+    squares == 1i128 << k && cross(&zw[..4]) + cross(&zw[4..]) == 0
+}

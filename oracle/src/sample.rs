@@ -1,0 +1,221 @@
+//! The replay sample: requests and the oracle's answers, for a program that needs no Rust.
+//!
+//! A request is a line `J RRRRR LLLLL` (14 bytes with its LF: the job's letter, the room lent, the payload's length),
+//! the payload, and an LF. The payload of 2, 3 and 5 is the word; that of 1, 4, P, I and C a bench record, whose z is
+//! the first Clifford and w the second. An answer is one line, numbers parted by spaces; a lent buffer is filled
+//! with dots before the call and stands whole at the line's end.
+
+use crate::abi::Written;
+use crate::inputs::{self, cliffords, raised, Random, Triple, JOB_2, JOB_3};
+use crate::report::Report;
+use crate::runs::triple_of;
+use crate::words::{self, fitting, less_final_w};
+use crate::{cliffords as job_6, records, rust, triples};
+use std::process::ExitCode;
+
+#[derive(Default)]
+struct Sample {
+    requests: Vec<u8>,
+    answers: Vec<u8>,
+    count: usize,
+    report: Report,
+}
+
+fn joined<T: ToString>(numbers: &[T]) -> String {
+    numbers.iter().map(T::to_string).collect::<Vec<_>>().join(" ")
+}
+
+impl Sample {
+    fn add(&mut self, job: char, room: usize, payload: &[u8], answer: &[u8]) {
+        self.requests.extend(format!("{job} {room:05} {:05}\n", payload.len()).bytes());
+        self.requests.extend(payload);
+        self.requests.push(b'\n');
+        self.answers.extend(answer);
+        self.answers.push(b'\n');
+        self.count += 1;
+    }
+
+    fn add_written(&mut self, job: char, room: usize, payload: &[u8], expected: &Written) {
+        let mut lent = vec![b'.'; room];
+        lent[..expected.word.len()].copy_from_slice(&expected.word);
+        let numbers = format!("{} {} ", expected.refusal, joined(&expected.numbers()));
+        self.add(job, room, payload, &[numbers.as_bytes(), &lent].concat());
+    }
+
+    /// Jobs 3 and 5, with this much more or less room than the answer takes.
+    fn normalise(&mut self, word: &[u8], more: isize) {
+        if let Some((number, place)) = words::refusal(word, JOB_3) {
+            for job in ['3', '5'] {
+                self.add_written(job, 20, word, &Written::refused(number, place));
+            }
+            return;
+        }
+        let normal = words::normal(&mut self.report, word).word;
+        for (job, answer) in [('3', normal.as_slice()), ('5', less_final_w(&normal))] {
+            let room = answer.len().saturating_add_signed(more);
+            self.add_written(job, room, word, &fitting(answer, room));
+        }
+    }
+
+    fn matrix(&mut self, word: &[u8]) {
+        let (_, number, numbers, place) = words::matrix_expected(&mut self.report, word);
+        self.add('2', 0, word, format!("{number} {place} {}", joined(&numbers)).as_bytes());
+    }
+
+    fn word(&mut self, word: &[u8], more: isize) {
+        self.normalise(word, more);
+        self.matrix(word);
+    }
+
+    /// Jobs 1 and 4.
+    fn triple(&mut self, triple: &Triple, more: isize) {
+        let record = records::record(triple).into_bytes();
+        let reduced = triples::reduced(&mut self.report, triple);
+        let (number, numbers) = reduced.map_or_else(|number| (number, [0; 10]), |numbers| (0, numbers));
+        self.add('1', 0, &record, format!("{number} {}", joined(&numbers)).as_bytes());
+        let (room, expected) = match reduced {
+            Err(number) => (20, Written::refused(number, 0)),
+            Ok(numbers) => {
+                let word = triples::synthesised(&mut self.report, &numbers);
+                let room = word.len().saturating_add_signed(more);
+                (room, fitting(&word, room))
+            }
+        };
+        self.add_written('4', room, &record, &expected);
+    }
+
+    fn clifford(&mut self, job: char, x: &[i32; 4], y: &[i32; 4], answer: &[i32]) {
+        let zw: Vec<i64> = x.iter().chain(y).map(|v| *v as i64).collect();
+        let record = records::record(&(0, 0, zw.try_into().unwrap()));
+        self.add(job, 0, record.as_bytes(), joined(answer).as_bytes());
+    }
+
+    fn product(&mut self, x: &[i32; 4], y: &[i32; 4]) {
+        self.clifford('P', x, y, &rust::product(x, y));
+    }
+
+    fn inverse_and_coset(&mut self, x: &[i32; 4]) {
+        let reduced = rust::reduced(x);
+        let mended = [2, 1, 2, (2 - reduced[3]).rem_euclid(8)];
+        let inverse = if job_6::row(&reduced) == 12 { mended } else { rust::inverse(x) };
+        self.clifford('I', x, &[0; 4], &inverse);
+        self.clifford('C', x, &[0; 4], &rust::coset(x));
+    }
+}
+
+/// Document 01's cases, every arm, every letter and byte, and each limit of words.
+fn words(s: &mut Sample) {
+    for w in ["", "T", "TT", "TTTT", "HH", "HTT", "SHTT", "HSH", "XT", "WT", "HTHT", "W", "TW", "I", "TI"] {
+        for more in [-1, 0, 1, 9] {
+            s.normalise(w.as_bytes(), more);
+        }
+        s.matrix(w.as_bytes());
+    }
+    for (i, tail) in inputs::tails().iter().enumerate() {
+        for front in [b"".as_slice(), b"T", b"HT", b"TSHT"] {
+            s.normalise(&[front, tail, b"T"].concat(), (i % 4) as isize - 1);
+        }
+        s.word(&[tail.as_slice(), &[JOB_3[i % 5]]].concat(), 0);
+    }
+    for byte in 0..=255 {
+        s.word(&[b'H', byte], 1);
+    }
+    let mut random = Random::new(11);
+    for len in 0..=60 {
+        for _ in 0..4 {
+            s.word(&random.word(JOB_3, len), 2);
+            s.matrix(&random.word(JOB_2, len));
+        }
+    }
+    for len in [4095, 4096, 4097] {
+        let free = random.word_without_sht_arm(len);
+        s.word(&free, 0);
+        s.word(&[&free[1..], b"I"].concat(), 0);
+        s.matrix(&random.word(b"HSXWI", len));
+    }
+    s.word(&b"SHTTSSSHSSS".repeat(372), 0);
+    for n in [59, 60, 118, 119, 120, 121, 122] {
+        s.matrix(&b"HT".repeat(n));
+        s.matrix(&[b"HT".repeat(n), b"TSSSH".repeat(n)].concat());
+        s.matrix(&random.normal(n));
+    }
+}
+
+/// Every k, n and tail, raised and damaged triples, and each limit.
+fn all_triples(s: &mut Sample) {
+    let big = 1i64 << 30;
+    let one = [0, 0, 0, 1, 0, 0, 0, 0];
+    for t in 0..=1 {
+        for front in inputs::syllables(t) {
+            for (i, tail) in inputs::tails().iter().enumerate() {
+                let found = triple_of(&[front.as_slice(), tail].concat()).expect("accepted");
+                s.triple(&found, (i % 4) as isize - 1);
+            }
+        }
+    }
+    let mut random = Random::new(12);
+    for syllables in 2..=119 {
+        let Some(found) = triple_of(&random.normal(syllables)) else { continue };
+        s.triple(&found, 0);
+        s.triple(&(found.0, found.1 | 0xf8, found.2), -1);
+        if found.0 < 60 {
+            s.triple(&raised(found), 1);
+        }
+        let mut zw = found.2;
+        zw[random.below(8)] ^= 1;
+        s.triple(&(found.0, found.1, zw), 0);
+    }
+    let mut up: Triple = (0, 0, one);
+    for n in 0..=61 {
+        s.triple(&(up.0, n, up.2), 0);
+        up = raised(up);
+    }
+    for k in [i64::MIN, -1, 0, 60, 61, i64::MAX] {
+        for x in [i64::MIN, -big - 1, -big, big, big + 1, i64::MAX] {
+            for at in [0, 3, 4, 7] {
+                let mut zw = [0; 8];
+                zw[at] = x;
+                s.triple(&(k, 0, zw), 0);
+            }
+        }
+    }
+    s.triple(&(0, 0, [0, 0, 0, 1, 0, 0, 0, 1]), 0);
+    s.triple(&(1, 0, [0, 0, 1, 1, 0, 0, 0, 0]), 0);
+    s.triple(&(0, 4, [0, 0, 0, 0, 0, 0, 0, 1]), 0);
+    s.triple(&(60, 0, [big; 8]), 0);
+}
+
+/// Every row of the four tables, and the edges of the numbers.
+fn all_cliffords(s: &mut Sample) {
+    let all = cliffords();
+    for (i, x) in all.iter().enumerate() {
+        s.inverse_and_coset(x);
+        for j in 0..4 {
+            s.product(x, &all[(i * 29 + j * 53) % 192]);
+        }
+    }
+    let mut random = Random::new(13);
+    for _ in 0..200 {
+        let mut any = || [0; 4].map(|_| *random.of(&inputs::EDGES));
+        let (x, y) = (any(), any());
+        s.product(&x, &y);
+        s.inverse_and_coset(&x);
+    }
+}
+
+pub fn write(folder: &str) -> ExitCode {
+    let mut s = Sample::default();
+    words(&mut s);
+    all_triples(&mut s);
+    all_cliffords(&mut s);
+    if s.report.unexplained > 0 {
+        return ExitCode::FAILURE;
+    }
+    let put = |name: &str, text: &[u8]| std::fs::write(format!("{folder}/{name}"), text);
+    if let Err(error) = put("stdin", &s.requests).and(put("stdout", &s.answers)) {
+        eprintln!("oracle: {folder}: {error}");
+        return ExitCode::FAILURE;
+    }
+    println!("oracle: {} requests in {folder}/stdin, their answers in {folder}/stdout", s.count);
+    ExitCode::SUCCESS
+}

@@ -1,0 +1,203 @@
+//! Times the library and the published Rust on the same inputs in one process, and prints a table for docs/SPEED.md.
+//! A round times both, one after the other; the ratio is taken round by round. A word that takes the Rust's SHT arm
+//! is timed as any other.
+
+#[allow(dead_code)]
+mod abi;
+#[allow(dead_code)]
+mod exact;
+#[allow(dead_code)]
+mod inputs;
+#[allow(dead_code)]
+mod library;
+#[allow(dead_code)]
+mod rust;
+
+use inputs::{Random, Triple, JOB_2, JOB_3};
+use library::c;
+use rsgridsynth::normal_form::NormalForm;
+use rsgridsynth::synthesis_of_clifford_t::decompose_domega_unitary;
+use rsgridsynth::unitary::{access, DOmegaUnitary};
+use std::hint::black_box;
+
+const ROUNDS: usize = 15;
+
+struct Row {
+    what: String,
+    per: f64,
+    ours: Vec<f64>,
+    rust: Vec<f64>,
+}
+
+fn median(v: &[f64]) -> f64 {
+    let mut sorted = v.to_vec();
+    sorted.sort_by(f64::total_cmp);
+    sorted[sorted.len() / 2]
+}
+
+/// Nanoseconds of this thread's own time, so that a busy machine spreads the rounds less.
+fn now() -> f64 {
+    extern "C" {
+        fn clock_gettime(clock: i32, time: *mut [i64; 2]) -> i32;
+    }
+    const CLOCK_THREAD_CPUTIME_ID: i32 = 3;
+    let mut time = [0; 2];
+    assert_eq!(unsafe { clock_gettime(CLOCK_THREAD_CPUTIME_ID, &mut time) }, 0);
+    time[0] as f64 * 1e9 + time[1] as f64
+}
+
+/// Nanoseconds a call, `calls` of them made by the work.
+fn timed(calls: usize, work: impl FnOnce()) -> f64 {
+    let start = now();
+    work();
+    (now() - start) / calls as f64
+}
+
+impl Row {
+    fn print(&self) {
+        let (ours, letter) = (median(&self.ours), self.per);
+        let each = if letter > 0.0 { format!("{:.1}", ours / letter) } else { String::new() };
+        if self.rust.is_empty() {
+            println!("| {} | | {:.3} | {each} | |", self.what, ours / 1000.0);
+            return;
+        }
+        let ratios: Vec<f64> = self.rust.iter().zip(&self.ours).map(|(r, o)| r / o).collect();
+        let least = ratios.iter().copied().fold(f64::INFINITY, f64::min);
+        let most = ratios.iter().copied().fold(0.0, f64::max);
+        println!(
+            "| {} | {:.3} | {:.3} | {each} | {:.1} ({least:.1} to {most:.1}) |",
+            self.what,
+            median(&self.rust) / 1000.0,
+            ours / 1000.0,
+            median(&ratios),
+        );
+    }
+}
+
+/// Both sides over the inputs, in rounds; the first round is not counted.
+fn race<'a, I, P>(
+    what: String,
+    per: f64,
+    inputs: &'a [I],
+    turns: usize,
+    ours: impl Fn(&'a I),
+    prepare: impl Fn(&'a I) -> P,
+    rust: impl Fn(P),
+) {
+    let mut row = Row { what, per, ours: Vec::new(), rust: Vec::new() };
+    for round in 0..=ROUNDS {
+        let calls = inputs.len() * turns;
+        let a = timed(calls, || (0..turns).for_each(|_| inputs.iter().for_each(&ours)));
+        let prepared: Vec<P> = (0..turns).flat_map(|_| inputs.iter().map(&prepare)).collect();
+        let b = timed(calls, || prepared.into_iter().for_each(&rust));
+        if round > 0 {
+            row.ours.push(a);
+            row.rust.push(b);
+        }
+    }
+    row.print();
+}
+
+fn alone<I>(what: String, inputs: &[I], turns: usize, ours: impl Fn(&I)) {
+    let time = |_| timed(inputs.len() * turns, || (0..turns).for_each(|_| inputs.iter().for_each(&ours)));
+    let all: Vec<f64> = (0..=ROUNDS).map(time).skip(1).collect();
+    Row { what, per: 0.0, ours: all, rust: Vec::new() }.print();
+}
+
+fn text(word: &[u8]) -> &str {
+    std::str::from_utf8(word).unwrap()
+}
+
+fn normalise(word: &[u8]) {
+    let (mut buf, mut out) = ([0u8; 12_320], [0u64; 3]);
+    unsafe { c::dunrossel_normalise(word.as_ptr(), word.len(), buf.as_mut_ptr(), buf.len(), out.as_mut_ptr()) };
+    black_box((&buf[..8], out));
+}
+
+fn matrix(word: &[u8]) {
+    let (mut out, mut place) = ([0i64; 10], 0u64);
+    unsafe { c::dunrossel_matrix(word.as_ptr(), word.len(), out.as_mut_ptr(), &mut place) };
+    black_box((out, place));
+}
+
+fn synthesise((k, n, zw): &Triple) {
+    let (mut buf, mut out) = ([0u8; 376], [0u64; 3]);
+    unsafe { c::dunrossel_synthesise(*k, *n, zw.as_ptr(), buf.as_mut_ptr(), buf.len(), out.as_mut_ptr()) };
+    black_box((&buf[..8], out));
+}
+
+fn view((k, n, zw): &Triple) {
+    let mut out = [0f64; 8];
+    unsafe { c::dunrossel_view(*k, *n, zw.as_ptr(), out.as_mut_ptr()) };
+    black_box(out);
+}
+
+fn words(random: &mut Random, letters: &[u8], len: usize, n: usize) -> Vec<Vec<u8>> {
+    (0..n).map(|_| random.word(letters, len)).collect()
+}
+
+/// Reduced triples of one exponent, from random normal words.
+fn triples(random: &mut Random, k: i64, n: usize) -> Vec<Triple> {
+    let mut found = Vec::new();
+    while found.len() < n {
+        let more = random.below(4);
+        let word = random.normal(2 * k as usize - 2 + more);
+        if let Some(Some(m)) = rust::matrix(text(&word)) {
+            if m[0] == k {
+                found.push((m[0], m[1] as u8, m[2..].try_into().unwrap()));
+            }
+        }
+    }
+    found
+}
+
+fn main() {
+    let mut random = Random::new(20);
+    println!("| What | the Rust, us a call | ours, us a call | ours, ns a letter | ratio, median (least to most) |");
+    println!("|---|---|---|---|---|");
+    for (len, n, turns) in [(20, 400, 20), (200, 100, 10), (4096, 20, 3)] {
+        let inputs = words(&mut random, JOB_3, len, n);
+        let name = format!("normalise, {len} random letters");
+        race(
+            name,
+            len as f64,
+            &inputs,
+            turns,
+            |w| normalise(w),
+            |w| text(w),
+            |w| {
+                black_box(NormalForm::from_gates(w).to_gates());
+            },
+        );
+    }
+    for k in [10, 30, 60] {
+        let inputs = triples(&mut random, k, 100);
+        let prepare = |(k, n, zw): &Triple| access::triple(*k, *n, zw);
+        race(format!("synthesise, k = {k}"), 0.0, &inputs, 5, synthesise, prepare, |u| {
+            black_box(decompose_domega_unitary(u));
+        });
+    }
+    let calm: Vec<u8> = [b"HSXW".repeat(16), b"T".to_vec()].concat();
+    for (letters, name, len, n) in [
+        (JOB_2, "20 random letters", 20, 400),
+        (JOB_2, "200 random letters", 200, 100),
+        (&calm, "4096 letters, few T", 4096, 5),
+    ] {
+        let inputs = words(&mut random, letters, len, n);
+        let name = format!("word to matrix, {name}");
+        race(
+            name,
+            len as f64,
+            &inputs,
+            3,
+            |w| matrix(w),
+            |w| text(w),
+            |w| {
+                black_box(DOmegaUnitary::from_gates(w));
+            },
+        );
+    }
+    for k in [10, 60] {
+        alone(format!("numeric view, k = {k}"), &triples(&mut random, k, 100), 50, view);
+    }
+}

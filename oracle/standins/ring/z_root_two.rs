@@ -1,0 +1,3 @@
+//! Stand-in of src/ring/z_root_two.rs: the type's name alone.
+
+pub struct ZRootTwo;
