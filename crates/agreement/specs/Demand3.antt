@@ -3,26 +3,25 @@
 -- with one matrix give one outcome. Assumes nothing.
 use mathlib.Core.Path.{_≡_, refl, sym, _∙_, ap, subst}
 use mathlib.Core.List.{List, [], _∷_, _++_}
-use Prim.Native.Nat.{ℕ, zero, suc, _≤_, _<_, _^_}
+use Prim.Native.Nat.{ℕ, zero, suc, _≤_, _<_}
 use native.Mathlib.Omega.{arith}
 use lib.Dec.{T, le→leb}
-use lib.IntN.{ℤ, pos, natAbs}
+use lib.IntN.{pos}
 use lib.ListN.{length, drop, getD}
-use Rattle.exact.specs.Meaning.Matrix.{Same, Least}
-use Rattle.exact.specs.Meaning.Word.{Letter, word, tees, byte, bytes, In, job2, job3}
+use Rattle.exact.specs.Meaning.Matrix.{Same}
+use Rattle.exact.specs.Meaning.Word.{Letter, word, tees, bytes, In, job2, job3}
 use Rattle.exact.specs.Meaning.Normal.{Normal}
 use Rattle.exact.specs.Meaning.Triple.{entries, Unitary, Reduced}
 use Rattle.exact.specs.Meaning.Endings.{Shallow, Deep, AllShallow, DeepAt}
-use Rattle.exact.specs.Meaning.Limits.{longest, deepest, largest, enough, Accepted}
+use Rattle.exact.specs.Meaning.Limits.{longest, deepest, enough, Accepted}
 use Rattle.exact.specs.Cases.Letters.{bytes-inj}
 use Rattle.exact.specs.Matrices.Same.{Same-sym, Same-trans, Same-of}
 use Rattle.exact.specs.Matrices.Least.{least-unique, least-same}
 use Rattle.exact.specs.Matrices.Sizes.{z-sized, w-sized}
 use Rattle.exact.specs.Matrices.Triples.{word-triple, word-unitary, unitary-same}
 use Rattle.exact.specs.Unique.Normal.{unique}
-use Rattle.unitary.specs.declared.DOmegaUnitary.{DOmegaUnitary}
 use Rattle.unitary.specs.declared.FromGates.{FromGates}
-use Rattle.unitary.specs.Triples.{triple, given}
+use Rattle.unitary.specs.Triples.{triple}
 use Rattle.unitary.specs.Outcomes.{InExponents, InCoefficients, MatrixOutcome}
 use Rattle.normal_form.specs.declared.Written.{Written}
 use Rattle.normal_form.specs.Outcome as Job3

@@ -1,14 +1,13 @@
 -- A machine's ring number as the exact one, and its size. Assumes nothing.
-use mathlib.Core.Path.{_≡_, refl, sym, _∙_}
+use mathlib.Core.Path.{_≡_}
 use mathlib.Core.List.{List, [], _∷_}
-use Prim.Native.Nat.{ℕ, _≤_, _^_}
-use lib.IntN.{ℤ, pos, negℤ, _-ℤ_}
-use Rattle.exact.specs.Meaning.Number.{Quad, Ω, ints, mulQ, omega′}
+use Prim.Native.Nat.{_^_}
+use lib.IntN.{ℤ, pos, _-ℤ_}
+use Rattle.exact.specs.Meaning.Number.{Ω, ints, mulQ, omega′}
 use Rattle.exact.specs.Algebra.Ring.{ints-laws}
-use Rattle.exact.specs.Algebra.Solver.{con, _⊝_, ⊖, exprs}
-use Rattle.exact.specs.Algebra.Omega.{quad-path, X₀, parts, solveQ}
+use Rattle.exact.specs.Algebra.Solver.{con, _⊝_, exprs}
+use Rattle.exact.specs.Algebra.Omega.{X₀, parts, solveQ}
 use Rattle.exact.specs.Meaning.Number.{Sized}
-use Rattle.exact.specs.Whole.Size.{Within}
 use Rattle.ring.specs.declared.ZOmega.{ZOmega}
 
 abbrev pub quad : ZOmega → Ω

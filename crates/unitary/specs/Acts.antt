@@ -5,17 +5,17 @@ use native.Mathlib.Omega.{arith}
 use lib.Dec.{T}
 use lib.IntN.{pos, _+ℤ_}
 use borrow.Author.Tests.{ne-eqb}
-use Prim.Native.Nat.{ℕ, zero, suc, _≤_, _<_, _+_, _%_, _^_}
+use Prim.Native.Nat.{ℕ, zero, suc, _≤_, _<_, _+_, _^_}
 use Rattle.exact.specs.Meaning.Matrix.{Same, _·_, unit}
 use Rattle.exact.specs.Meaning.Word.{Letter, I, H, S, X, W, T′, letter}
 use Rattle.exact.specs.Cases.Letters.{letterOf}
 use Rattle.exact.specs.Meaning.Triple.{Triple, entries, Unitary, Reduced}
 use Rattle.exact.specs.Meaning.Limits.{deepest}
-use Rattle.exact.specs.Meaning.Number.{Ω, ints, omegas, addQ, negQ, mulQ, constQ, omega′, omega^, odd, Sized}
+use Rattle.exact.specs.Meaning.Number.{Ω, ints, omegas, negQ, mulQ, omega′, omega^, odd, Sized}
 use Rattle.exact.specs.Whole.Parity.{odd-add, odd-sub, xr-comm}
 use Rattle.exact.specs.Algebra.Solver.{con, _⊗_, ring₂}
 use Rattle.exact.specs.Algebra.Omega.{omegas-laws, times-omega}
-use Rattle.exact.specs.Algebra.Over.{divides, over}
+use Rattle.exact.specs.Algebra.Over.{divides}
 use Rattle.exact.specs.Matrices.Same.{Same-refl, Same-sym, Same-trans, Same-of, Same-mul, mul-assoc, unit-mul}
 use Rattle.exact.specs.Matrices.Test.{same-by}
 use Rattle.exact.specs.Matrices.Triples.{act, acts, unitary-same, unitary-act}
