@@ -67,7 +67,7 @@ any-in [] i h = absurd (omega arith)
 any-in (l ∷ u) zero h = record { letter-there = l; allowed = tt; is = refl }
 any-in (l ∷ u) (suc i) h = any-in u i (omega arith)
 
-length-bytes : (u : List Letter) → length (bytes u) ≡ length u
+pub length-bytes : (u : List Letter) → length (bytes u) ≡ length u
 length-bytes [] = refl
 length-bytes (l ∷ u) = ap suc (length-bytes u)
 
@@ -119,6 +119,9 @@ module _ (u : List Letter) (w : Within u) where
       let d′ : DeepAt u p = subst (λ (y : List Letter). DeepAt y p) (bytes-inj x u e) d in
       absurd (not-both (w .shallow .at p (omega (arith, d′ .there))) (d′ .deep))
   job-2 r (MatrixOutcome.accepted l x e a t s d n) = record { taken = refl; same = subst (λ (y : List Letter). Same (entries (triple t)) (word y)) (bytes-inj x u e) s; reduced = d }
+
+  pub taken-2 : (r : FromGates) → MatrixOutcome (bytes u) r → r .refusal ≡ Accepted
+  taken-2 r h = job-2 r h .taken
 
   -- ---- job 4
   module _ (m : FromGates) (h : Multiplied m) where
