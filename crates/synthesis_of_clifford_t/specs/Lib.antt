@@ -9,3 +9,4 @@ pub mod Tees
 pub mod Loop
 pub mod Cases
 pub mod Outcome
+pub mod Code
