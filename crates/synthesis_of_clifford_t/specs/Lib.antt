@@ -10,3 +10,6 @@ pub mod Loop
 pub mod Cases
 pub mod Outcome
 pub mod Code
+pub mod Closes
+pub mod Parts
+pub mod Answer

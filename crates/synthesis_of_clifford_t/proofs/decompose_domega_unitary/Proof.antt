@@ -1,96 +1,87 @@
+-- `synthesis_of_clifford_t::decompose_domega_unitary` meets its contract: each turn takes a step and writes its block into the free rest; the measure is how many steps there may be.
+use mathlib.Core.Path.{_≡_}
+use Prim.Native.Nat.{ℕ, _≤_}
+use native.Mathlib.Omega.{arith}
+use denote.Ref.{now}
+use borrow.Author.Needs.{needs}
+use Rattle.unitary.specs.Triples.{triple}
+use Rattle.normal_form.specs.Answers.{bytes-length}
+use Rattle.synthesis_of_clifford_t.specs.Step.{block}
+use Rattle.synthesis_of_clifford_t.specs.Closing.{closing, closing-length}
+use Rattle.synthesis_of_clifford_t.specs.Steps.{left}
+use Rattle.synthesis_of_clifford_t.specs.Counts.{block-length}
+use Rattle.synthesis_of_clifford_t.specs.Parts.{Writing, writing-start, writing-good, writing-len, writing-inside, writing-same, not-ended, step-few, step-nearer, step-room, step-writing, end-room, end-put}
 use Rattle.synthesis_of_clifford_t.proofs.decompose_domega_unitary.Statement.{statement}
 use Rattle.synthesis_of_clifford_t.proofs.decompose_domega_unitary.Tie as tie
-use Rattle.synthesis_of_clifford_t.proofs.decompose_domega_unitary.Reads as reads
-use Rattle.synthesis_of_clifford_t.proofs.decompose_domega_unitary.Lts as lts
-use Rattle.synthesis_of_clifford_t.proofs.reduce_denomexp.Reads as reduce-denomexp-reads
-use Rattle.synthesis_of_clifford_t.proofs.write_block.Reads as write-block-reads
-use Rattle.synthesis_of_clifford_t.proofs.write_closing.Reads as write-closing-reads
+
+none-left : (k : ℕ) → k ≤ 0 → k ≡ 0
+none-left k h = omega arith
 
 abbrev Inv-loop : tie.InvT-loop
-Inv-loop work₀ u₀ len₀ work u len = ?
+Inv-loop work₀ u₀ len₀ work u len = Writing work₀ u₀ work u len
 
 abbrev μ-loop : tie.MeasureT-loop
-μ-loop work₀ u₀ len₀ work u len = ?
+μ-loop work₀ u₀ len₀ work u len = left (triple u)
 
--- src/lib.rt:200:5
 loop-holds : tie.Need-loop-holds Inv-loop μ-loop
-loop-holds c = ?
+loop-holds c = let s = c .before in writing-start (now (s .args .work)) (s .args .t) (s .pre .0) (s .pre .1 .0) (s .pre .1 .1)
 
--- src/lib.rt:201:40
 reduce-denomexp-requires : tie.Need-reduce-denomexp-requires Inv-loop μ-loop
-reduce-denomexp-requires c κs = ?
+reduce-denomexp-requires c κs = writing-good (c .before .before .loop .inv)
 
--- src/lib.rt:201:29
 enum-known-m : tie.Need-enum-known-m Inv-loop μ-loop
-enum-known-m c = ?
+enum-known-m c = search needs
 
--- src/lib.rt:202:13
 enum-told : tie.Need-enum-told Inv-loop μ-loop
-enum-told c = ?
+enum-told c = search needs
 
--- src/lib.rt:202:13
 same-length : tie.Need-same-length Inv-loop μ-loop
-same-length c = ?
+same-length c = absurd (not-ended (c .before .before .before .before .before .loop .inv) (c .before .before .before .if1 .taken) (c .before .before .reduce-denomexp .result) (c .before .before .reduce-denomexp .ensures) (c .enum-told .given .1))
 
--- src/lib.rt:202:13
 returns : tie.Need-returns Inv-loop μ-loop
-returns c = ?
+returns c = absurd (not-ended (c .before .before .before .before .before .loop .inv) (c .before .before .before .if1 .taken) (c .before .before .reduce-denomexp .result) (c .before .before .reduce-denomexp .ensures) (c .enum-told .given .1))
 
--- src/lib.rt:204:28
 sub-write-block : tie.Need-sub-write-block Inv-loop μ-loop
-sub-write-block c = ?
+sub-write-block c = writing-inside (c .before .before .before .before .before .before .loop .inv)
 
--- src/lib.rt:204:28
 part-write-block-start : tie.Need-part-write-block-start Inv-loop μ-loop
-part-write-block-start c = ?
+part-write-block-start c = writing-inside (c .before .before .before .before .before .before .loop .inv)
 
--- src/lib.rt:204:28
 part-write-block-end : tie.Need-part-write-block-end Inv-loop μ-loop
-part-write-block-end c = ?
+part-write-block-end c = omega arith
 
--- src/lib.rt:204:16
 write-block-requires : tie.Need-write-block-requires Inv-loop μ-loop
-write-block-requires c κs = ?
+write-block-requires c κs = (step-few (c .before .before .before .before .before .before .before .loop .inv) (c .before .before .before .before .before .if1 .taken) (c .before .before .before .before .reduce-denomexp .result) (c .before .before .before .before .reduce-denomexp .ensures) (c .before .before .m .given .0 .0) (c .before .before .m .given .0 .1 .0) (c .before .before .m .given .1), step-room (c .before .before .before .before .before .before .before .loop .inv) (c .before .before .before .before .before .if1 .taken) (c .before .before .before .before .reduce-denomexp .result) (c .before .before .before .before .reduce-denomexp .ensures) (c .before .before .m .given .0 .0) (c .before .before .m .given .0 .1 .0) (c .before .before .m .given .1))
 
--- src/lib.rt:204:9
 add-len : tie.Need-add-len Inv-loop μ-loop
-add-len c = ?
+add-len c = record { fits = omega (arith, writing-len (c .before .before .before .before .before .before .before .before .before .before .loop .inv) .1, c .before .before .write-block .ensures .next, bytes-length (block (c .before .before .before .before .before .m .given .0 .0)), block-length (c .before .before .before .before .before .m .given .0 .0) .1) }
 
--- src/lib.rt:200:5
 loop-less : tie.Need-loop-less Inv-loop μ-loop
-loop-less c = ?
+loop-less c = step-nearer (c .before .before .before .before .before .before .before .before .before .before .loop .inv) (c .before .before .before .before .before .before .before .before .if1 .taken) (c .before .before .before .before .before .before .before .reduce-denomexp .result) (c .before .before .before .before .before .before .before .reduce-denomexp .ensures) (c .before .before .before .before .before .m .given .0 .0) (c .before .before .before .before .before .m .given .0 .1 .0) (c .before .before .before .before .before .m .given .1)
 
--- src/lib.rt:200:5
 loop-again : tie.Need-loop-again Inv-loop μ-loop
-loop-again c = ?
+loop-again c = step-writing (c .before .before .before .before .before .before .before .before .before .before .loop .inv) (c .before .before .before .before .before .before .before .before .if1 .taken) (c .before .before .before .before .before .before .before .reduce-denomexp .result) (c .before .before .before .before .before .before .before .reduce-denomexp .ensures) (c .before .before .before .before .before .m .given .0 .0) (c .before .before .before .before .before .m .given .0 .1 .0) (c .before .before .before .before .before .m .given .1) (c .before .before .write-block .last .0) (c .before .before .write-block .result) (c .before .before .write-block .ensures)
 
--- src/lib.rt:207:25
 sub-write-closing : tie.Need-sub-write-closing Inv-loop μ-loop
-sub-write-closing c = ?
+sub-write-closing c = writing-inside (c .before .before .loop .inv)
 
--- src/lib.rt:207:25
 part-write-closing-start : tie.Need-part-write-closing-start Inv-loop μ-loop
-part-write-closing-start c = ?
+part-write-closing-start c = writing-inside (c .before .before .loop .inv)
 
--- src/lib.rt:207:25
 part-write-closing-end : tie.Need-part-write-closing-end Inv-loop μ-loop
-part-write-closing-end c = ?
+part-write-closing-end c = omega arith
 
--- src/lib.rt:207:11
 write-closing-requires : tie.Need-write-closing-requires Inv-loop μ-loop
-write-closing-requires c κs = ?
+write-closing-requires c κs = (writing-good (c .before .before .before .loop .inv) .0, ((none-left (c .before .before .before .loop .u .k) (c .before .if1 .left)), end-room (c .before .before .before .loop .inv) (none-left (c .before .before .before .loop .u .k) (c .before .if1 .left))))
 
--- src/lib.rt:207:5
 add-result : tie.Need-add-result Inv-loop μ-loop
-add-result c = ?
+add-result c = record { fits = omega (arith, writing-len (c .before .before .before .before .before .before .loop .inv) .1, c .before .before .write-closing .ensures .next, bytes-length (closing (triple (c .before .before .before .before .before .before .loop .u))), closing-length (triple (c .before .before .before .before .before .before .loop .u)) (c .before .before .before .before .before .before .loop .inv .progress .ready .unitary) (none-left (c .before .before .before .before .before .before .loop .u .k) (c .before .before .before .before .if1 .left))) }
 
--- src/lib.rt:194:1
 same-length-2 : tie.Need-same-length-2 Inv-loop μ-loop
-same-length-2 c = ?
+same-length-2 c = writing-same (c .before .before .before .before .before .before .loop .inv) (c .before .before .write-closing .last .0) (c .before .before .write-closing .kept .0)
 
--- src/lib.rt:194:1
 returns-2 : tie.Need-returns-2 Inv-loop μ-loop
-returns-2 c = ?
+returns-2 c = end-put (c .before .before .before .before .before .before .loop .inv) (none-left (c .before .before .before .before .before .before .loop .u .k) (c .before .before .before .before .if1 .left)) (c .before .before .write-closing .last .0) (c .before .before .write-closing .result) (c .before .before .write-closing .ensures)
 
 pub decompose-domega-unitary-spec : {M : Type 1} → statement M
 decompose-domega-unitary-spec =
