@@ -13,3 +13,4 @@ pub mod Code
 pub mod Closes
 pub mod Parts
 pub mod Answer
+pub mod Useless
