@@ -99,7 +99,7 @@ impl Ending {
     }
 }
 
-fn put_letter(buf: &mut [u8], at: usize, letter: u8) -> usize
+pub fn put_letter(buf: &mut [u8], at: usize, letter: u8) -> usize
     requires { ⌜ at < length (now buf) ⌝ }
     ensures { λ r. ⌜ Put (now (buf .entry)) at (letter ∷ []) (now (buf .exit)) r ⌝ }
 {
@@ -107,7 +107,7 @@ fn put_letter(buf: &mut [u8], at: usize, letter: u8) -> usize
     at + 1
 }
 
-fn put_times(buf: &mut [u8], at: usize, letter: u8, n: usize) -> usize
+pub fn put_times(buf: &mut [u8], at: usize, letter: u8, n: usize) -> usize
     requires { ⌜ at + n ≤ length (now buf) ⌝ }
     ensures { λ r. ⌜ Put (now (buf .entry)) at (replicate n letter) (now (buf .exit)) r ⌝ }
 {
@@ -152,7 +152,7 @@ fn put_syllables(buf: &mut [u8], items: &[u8; 4096], count: usize) -> usize
     at
 }
 
-fn put_ending(buf: &mut [u8], at: usize, e: Ending) -> usize
+pub fn put_ending(buf: &mut [u8], at: usize, e: Ending) -> usize
     requires { ⌜ at + endSize e ≤ length (now buf) ⌝ }
     ensures { λ r. ⌜ Put (now (buf .entry)) at (bytes (endWord e)) (now (buf .exit)) r ⌝ }
 {
