@@ -248,7 +248,12 @@ fn job6() {
     text(b"and times it ");
     clifford_of(clifford::clifford_product(2, 1, 2, 2, 1, 1, 0, 0));
     text(b"the least numbers, twice inverted ");
-    let q = clifford::clifford_inverse(-2147483647 - 1, -2147483647 - 1, -2147483647 - 1, -2147483647 - 1);
+    let q = clifford::clifford_inverse(
+        -2147483647 - 1,
+        -2147483647 - 1,
+        -2147483647 - 1,
+        -2147483647 - 1,
+    );
     clifford_of(clifford::clifford_inverse(q.a as i32, q.b as i32, q.c as i32, q.d as i32));
     text(b"-1,-1,-1,-1 times I ");
     clifford_of(clifford::clifford_product(-1, -1, -1, -1, 0, 0, 0, 0));
