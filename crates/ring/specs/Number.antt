@@ -1,15 +1,4 @@
 -- A machine's ring number as the exact one, and its size. Assumes nothing.
-<<<<<<< HEAD
-use mathlib.Core.Path.{_≡_}
-use mathlib.Core.List.{List, [], _∷_}
-use Prim.Native.Nat.{_^_}
-use lib.IntN.{ℤ, pos, _-ℤ_}
-use Rattle.exact.specs.Meaning.Number.{Ω, ints, mulQ, omega′}
-use Rattle.exact.specs.Algebra.Ring.{ints-laws}
-use Rattle.exact.specs.Algebra.Solver.{con, _⊝_, exprs}
-use Rattle.exact.specs.Algebra.Omega.{X₀, parts, solveQ}
-use Rattle.exact.specs.Meaning.Number.{Sized}
-=======
 use mathlib.Core.Path.{_≡_, refl, sym, _∙_, ap}
 use mathlib.Core.List.{List, [], _∷_}
 use Prim.Native.Nat.{ℕ, _-_, _≤_, _^_}
@@ -22,7 +11,6 @@ use Rattle.exact.specs.Algebra.Solver.{Expr, con, _⊝_, ⊖, exprs}
 use Rattle.exact.specs.Algebra.Omega.{quad-path, X₀, parts, solveQ}
 use Rattle.exact.specs.Meaning.Number.{Sized}
 use Rattle.exact.specs.Whole.Size.{Within, natAbs-sub}
->>>>>>> b83f3281d3a406f7293af10ad4c5be20f122f581
 use Rattle.ring.specs.declared.ZOmega.{ZOmega}
 
 abbrev pub quad : ZOmega → Ω

@@ -5,11 +5,7 @@ use native.Mathlib.Omega.{arith}
 use lib.Dec.{T}
 use lib.IntN.{pos, _+ℤ_}
 use borrow.Author.Tests.{ne-eqb}
-<<<<<<< HEAD
-use Prim.Native.Nat.{ℕ, zero, suc, _≤_, _<_, _+_, _^_}
-=======
 use Prim.Native.Nat.{ℕ, zero, suc, _≤_, _<_, _+_, _-_, _%_, _^_}
->>>>>>> b83f3281d3a406f7293af10ad4c5be20f122f581
 use Rattle.exact.specs.Meaning.Matrix.{Same, _·_, unit}
 use Rattle.exact.specs.Meaning.Word.{Letter, I, H, S, X, W, T′, letter}
 use Rattle.exact.specs.Cases.Letters.{letterOf}
