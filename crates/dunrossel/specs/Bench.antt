@@ -1,8 +1,8 @@
 -- What the bench program answers, for every input: refusal 8 where the bytes are no right record, else what job 4 says of its numbers; and that two
 -- allowed answers are equal. Refusal 7 can't arise: no constructor has it. Assumes nothing.
 use mathlib.Core.Path.{_≡_, refl, sym, _∙_, ap, subst, subst⁻¹}
-use mathlib.Core.List.{List, [], _∷_, _++_}
-use Prim.Native.Nat.{ℕ, zero, suc, _≤_, _<_}
+use mathlib.Core.List.{List, [], _∷_}
+use Prim.Native.Nat.{ℕ, suc, _≤_}
 use native.Mathlib.Omega.{arith}
 use lib.ListN.{length, drop, take, length-append}
 use lib.Seq.{take-at}
@@ -26,7 +26,7 @@ use Rattle.synthesis_of_clifford_t.specs.Outcome.{SynthesiseOutcome, Answered, 
 use Rattle.synthesis_of_clifford_t.specs.Synthesised.{reduce-ready}
 use Rattle.synthesis_of_clifford_t.specs.Counts.{answer-enough}
 use Rattle.record.specs.declared.Record.{Record}
-use Rattle.record.specs.Meaning.{Numbers, numbers, RightRecord, ReadOutcome, WriteOutcome}
+use Rattle.record.specs.Meaning.{Numbers, numbers, RightRecord, ReadOutcome, WriteOutcome, answerText}
 use Rattle.record.specs.RecordLaws.{record-once}
 use Rattle.record.specs.AnswerLaws.{write-once}
 
@@ -173,3 +173,7 @@ module _ (s old : List ℕ) (r : Record) (size : ℕ) (new : List ℕ) where
   pub bench-read : ReadOutcome s r → r .refusal ≡ 0 → Answers r old size new → BenchOutcome s old size new
   bench-read (ReadOutcome.accepted q right) e h = h .outcome s right
   bench-read (ReadOutcome.refused f g) e h = absurd (omega (arith, e, ap (λ (x : Record). x .refusal) f))
+
+pub bench-fits : {s old : List ℕ} {size : ℕ} {new : List ℕ} → BenchOutcome s old size new → size ≤ length new
+bench-fits {s} {old} {size} {new} h =
+    omega (arith, h .written .is-size, ap length (h .written .is), length-append (answerText (h .refusal) (h .letters) (h .t)) (drop size old))

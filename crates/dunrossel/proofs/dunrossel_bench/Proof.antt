@@ -1,5 +1,4 @@
 -- `dunrossel::dunrossel_bench` meets its contract: refusal 8 of what is no right record, else job 4's answer.
-use mathlib.Core.Path.{refl}
 use Rattle.dunrossel.specs.Bench.{bench-malformed, bench-read}
 use denote.Ref.{now}
 use borrow.Author.Needs.{needs}
