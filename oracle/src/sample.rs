@@ -1,9 +1,5 @@
-//! The replay sample: requests and the oracle's answers, for a program that needs no Rust.
-//!
-//! A request is a line `J RRRRR LLLLL` (14 bytes with its LF: the job's letter, the room lent, the payload's length),
-//! the payload, and an LF. The payload of 2, 3 and 5 is the word; that of 1, 4, P, I and C a bench record, whose z is
-//! the first Clifford and w the second. An answer is one line, numbers parted by spaces; a lent buffer is filled
-//! with dots before the call and stands whole at the line's end.
+//! The replay sample: requests and the oracle's answers, for a program that needs no Rust. crates/replay/README.md
+//! has the format.
 
 use crate::abi::Written;
 use crate::inputs::{self, cliffords, raised, Random, Triple, JOB_2, JOB_3};

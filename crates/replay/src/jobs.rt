@@ -1,0 +1,198 @@
+// A job on a payload, and its answer in text.
+use normal_form::Written;
+use normal_form::clifford;
+use normal_form::clifford::Axis;
+use normal_form::clifford::Clifford;
+use record::Record;
+use ring::ZOmega;
+use shown::number;
+use shown::signed;
+use shown::text;
+use unitary::DOmegaUnitary;
+
+fn and_number(x: u64) {
+    text(b" ");
+    number(x);
+}
+
+fn and_signed(x: i64) {
+    text(b" ");
+    signed(x);
+}
+
+fn and_ring(x: ZOmega) {
+    and_signed(x.a);
+    and_signed(x.b);
+    and_signed(x.c);
+    and_signed(x.d);
+}
+
+fn and_matrix(t: DOmegaUnitary) {
+    let z = t.z;
+    let w = t.w;
+    and_number(t.k as u64);
+    and_number(t.n as u64);
+    and_ring(z);
+    and_ring(w);
+}
+
+fn z_of(r: Record) -> ZOmega {
+    ZOmega {
+        a: r.za,
+        b: r.zb,
+        c: r.zc,
+        d: r.zd,
+    }
+}
+
+fn w_of(r: Record) -> ZOmega {
+    ZOmega {
+        a: r.wa,
+        b: r.wb,
+        c: r.wc,
+        d: r.wd,
+    }
+}
+
+fn reduce(r: Record) {
+    let k = r.k;
+    let n = r.n;
+    let answer = unitary::reduce(k, n, z_of(r), w_of(r));
+    let matrix = answer.matrix;
+    number(answer.refusal as u64);
+    and_matrix(matrix);
+}
+
+fn from_gates(word: &[u8]) {
+    let answer = unitary::from_gates(word);
+    let matrix = answer.matrix;
+    number(answer.refusal as u64);
+    and_number(answer.place as u64);
+    and_matrix(matrix);
+}
+
+// The whole lent buffer stands behind the counts.
+fn written(answer: Written, lent: &[u8]) {
+    number(answer.refusal as u64);
+    and_number(answer.place as u64);
+    and_number(answer.bytes as u64);
+    and_number(answer.tees as u64);
+    text(b" ");
+    text(lent);
+}
+
+fn normalise(word: &[u8], lent: &mut [u8]) {
+    let answer = normal_form::normalise(word, lent);
+    written(answer, lent);
+}
+
+fn phase_free(word: &[u8], lent: &mut [u8]) {
+    let answer = normal_form::phase_free(word, lent);
+    written(answer, lent);
+}
+
+fn synthesise(r: Record, lent: &mut [u8]) {
+    let k = r.k;
+    let n = r.n;
+    let answer = synthesis_of_clifford_t::synthesise(k, n, z_of(r), w_of(r), lent);
+    written(
+        Written {
+            refusal: answer.refusal,
+            place: 0,
+            bytes: answer.bytes,
+            tees: answer.tees,
+        },
+        lent,
+    );
+}
+
+// The oracle asks for Cliffords of i32 only.
+fn narrow(x: i64) -> i32 {
+    if x < -2147483648 {
+        return 0;
+    }
+    if x > 2147483647 {
+        return 0;
+    }
+    x as i32
+}
+
+// Four numbers of a Clifford, as the record has them.
+struct Four {
+    a: i32,
+    b: i32,
+    c: i32,
+    d: i32,
+}
+
+impl Four {
+    fn of(x: ZOmega) -> Four {
+        Four {
+            a: narrow(x.a),
+            b: narrow(x.b),
+            c: narrow(x.c),
+            d: narrow(x.d),
+        }
+    }
+}
+
+fn parts(q: Clifford) {
+    number(q.a as u64);
+    and_number(q.b as u64);
+    and_number(q.c as u64);
+    and_number(q.d as u64);
+}
+
+fn product(r: Record) {
+    let x = Four::of(z_of(r));
+    let y = Four::of(w_of(r));
+    parts(clifford::clifford_product(x.a, x.b, x.c, x.d, y.a, y.b, y.c, y.d));
+}
+
+fn inverse(r: Record) {
+    let x = Four::of(z_of(r));
+    parts(clifford::clifford_inverse(x.a, x.b, x.c, x.d));
+}
+
+fn axis_number(axis: Axis) -> u64 {
+    match axis {
+        Axis::I => 0,
+        Axis::H => 1,
+        Axis::SH => 2,
+    }
+}
+
+fn coset(r: Record) {
+    let x = Four::of(z_of(r));
+    let split = clifford::clifford_split(x.a, x.b, x.c, x.d);
+    let axis = split.axis;
+    let rest = split.rest;
+    number(axis_number(axis));
+    text(b" ");
+    parts(rest);
+}
+
+fn of_record(job: u8, r: Record, lent: &mut [u8]) {
+    if r.refusal != 0 {
+        text(b"no record");
+        return;
+    }
+    match job {
+        b'1' => reduce(r),
+        b'4' => synthesise(r, lent),
+        b'P' => product(r),
+        b'I' => inverse(r),
+        b'C' => coset(r),
+        _ => text(b"no job"),
+    }
+}
+
+// The payload of 2, 3 and 5 is a word, that of the others a bench record.
+pub fn answer(job: u8, payload: &[u8], lent: &mut [u8]) {
+    match job {
+        b'2' => from_gates(payload),
+        b'3' => normalise(payload, lent),
+        b'5' => phase_free(payload, lent),
+        _ => of_record(job, record::read(payload), lent),
+    }
+}
