@@ -3,26 +3,25 @@
 -- with one matrix give one outcome. Assumes nothing.
 use mathlib.Core.Path.{_≡_, refl, sym, _∙_, ap, subst}
 use mathlib.Core.List.{List, [], _∷_, _++_}
-use Prim.Native.Nat.{ℕ, zero, suc, _≤_, _<_, _^_}
+use Prim.Native.Nat.{ℕ, zero, suc, _≤_, _<_}
 use native.Mathlib.Omega.{arith}
 use lib.Dec.{T, le→leb}
-use lib.IntN.{ℤ, pos, natAbs}
+use lib.IntN.{pos}
 use lib.ListN.{length, drop, getD}
-use Rattle.exact.specs.Meaning.Matrix.{Same, Least}
-use Rattle.exact.specs.Meaning.Word.{Letter, word, tees, byte, bytes, In, job2, job3}
+use Rattle.exact.specs.Meaning.Matrix.{Same}
+use Rattle.exact.specs.Meaning.Word.{Letter, word, tees, bytes, In, job2, job3}
 use Rattle.exact.specs.Meaning.Normal.{Normal}
 use Rattle.exact.specs.Meaning.Triple.{entries, Unitary, Reduced}
 use Rattle.exact.specs.Meaning.Endings.{Shallow, Deep, AllShallow, DeepAt}
-use Rattle.exact.specs.Meaning.Limits.{longest, deepest, largest, enough, Accepted}
+use Rattle.exact.specs.Meaning.Limits.{longest, deepest, enough, Accepted}
 use Rattle.exact.specs.Cases.Letters.{bytes-inj}
 use Rattle.exact.specs.Matrices.Same.{Same-sym, Same-trans, Same-of}
 use Rattle.exact.specs.Matrices.Least.{least-unique, least-same}
 use Rattle.exact.specs.Matrices.Sizes.{z-sized, w-sized}
 use Rattle.exact.specs.Matrices.Triples.{word-triple, word-unitary, unitary-same}
 use Rattle.exact.specs.Unique.Normal.{unique}
-use Rattle.unitary.specs.declared.DOmegaUnitary.{DOmegaUnitary}
 use Rattle.unitary.specs.declared.FromGates.{FromGates}
-use Rattle.unitary.specs.Triples.{triple, given}
+use Rattle.unitary.specs.Triples.{triple}
 use Rattle.unitary.specs.Outcomes.{InExponents, InCoefficients, MatrixOutcome}
 use Rattle.normal_form.specs.declared.Written.{Written}
 use Rattle.normal_form.specs.Outcome as Job3
@@ -68,7 +67,7 @@ any-in [] i h = absurd (omega arith)
 any-in (l ∷ u) zero h = record { letter-there = l; allowed = tt; is = refl }
 any-in (l ∷ u) (suc i) h = any-in u i (omega arith)
 
-length-bytes : (u : List Letter) → length (bytes u) ≡ length u
+pub length-bytes : (u : List Letter) → length (bytes u) ≡ length u
 length-bytes [] = refl
 length-bytes (l ∷ u) = ap suc (length-bytes u)
 
@@ -120,6 +119,9 @@ module _ (u : List Letter) (w : Within u) where
       let d′ : DeepAt u p = subst (λ (y : List Letter). DeepAt y p) (bytes-inj x u e) d in
       absurd (not-both (w .shallow .at p (omega (arith, d′ .there))) (d′ .deep))
   job-2 r (MatrixOutcome.accepted l x e a t s d n) = record { taken = refl; same = subst (λ (y : List Letter). Same (entries (triple t)) (word y)) (bytes-inj x u e) s; reduced = d }
+
+  pub taken-2 : (r : FromGates) → MatrixOutcome (bytes u) r → r .refusal ≡ Accepted
+  taken-2 r h = job-2 r h .taken
 
   -- ---- job 4
   module _ (m : FromGates) (h : Multiplied m) where

@@ -3,3 +3,5 @@ pub mod Numbers
 pub mod Words
 pub mod Cliffords
 pub mod Views
+pub mod Synthesis
+pub mod Bench

@@ -162,7 +162,7 @@ module _ (items old : List ℕ) (k n : ℕ) (buf : List ℕ) (at : ℕ) (l : k <
           ∙ sym (bytes-append (codesWord (take k items)) (syllableWord (syllableOf (getD items k 0))))
           ∙ ap bytes (sym (codes-more items k (omega arith)))
 
--- ---- the six runs of a tail
+-- ---- the runs of a tail
 times-bytes : (n : ℕ) (l : Letter) → bytes (times n l) ≡ replicate n (byte l)
 times-bytes zero l = refl
 times-bytes (suc n) l = ap (λ u. byte l ∷ u) (times-bytes n l)
@@ -173,7 +173,7 @@ joined n l u w h = bytes-append (times n l) u ∙ ap₂ (λ x y. x ++ y) (times-
 replicated : (n x : ℕ) → length (replicate n x) ≡ n
 replicated n x = length-replicate n x
 
-end-bytes : (e : Ending) → replicate (e .first) 83 ++ replicate (e .h) 72 ++ replicate (e .i) 73 ++ replicate (e .x) 88 ++ replicate (e .s) 83 ++ replicate (e .w) 87 ≡ bytes (endWord e)
+end-bytes : (e : Ending) → ((replicate (e .first) 83 ++ replicate (e .h) 72) ++ (replicate (e .i) 73 ++ replicate (e .x) 88)) ++ (replicate (e .s) 83 ++ replicate (e .w) 87) ≡ bytes (endWord e)
 end-bytes e = simp append-assoc (sym run₁)
   where
     run₅ : bytes (times (e .s) S ++ times (e .w) W) ≡ replicate (e .s) 83 ++ replicate (e .w) 87
@@ -191,70 +191,34 @@ end-bytes e = simp append-assoc (sym run₁)
     run₁ : bytes (endWord e) ≡ replicate (e .first) 83 ++ (replicate (e .h) 72 ++ (replicate (e .i) 73 ++ (replicate (e .x) 88 ++ (replicate (e .s) 83 ++ replicate (e .w) 87))))
     run₁ = joined (e .first) S (times (e .h) H ++ (times (e .i) I ++ (times (e .x) X ++ (times (e .s) S ++ times (e .w) W)))) (replicate (e .h) 72 ++ (replicate (e .i) 73 ++ (replicate (e .x) 88 ++ (replicate (e .s) 83 ++ replicate (e .w) 87)))) run₂
 
-put-run : (old : List ℕ) (at : ℕ) (w mid : List ℕ) (a x n : ℕ) (new : List ℕ) (r m : ℕ) → length w ≡ m → at + m ≤ length old → Put old at w mid a → Put mid a (replicate n x) new r → Put old at (w ++ replicate n x) new r
-put-run old at w mid a x n new r m e h p q = put-more old at w mid a p (omega arith) (replicate n x) new r q
+two-length : (m x n y : ℕ) → length (replicate m x ++ replicate n y) ≡ m + n
+two-length m x n y = length-append (replicate m x) (replicate n y) ∙ ap₂ (λ a b. a + b) (replicated m x) (replicated n y)
 
-pub put-six : (old : List ℕ) (at : ℕ) (e : Ending) (b₁ : List ℕ) (a₁ : ℕ) (b₂ : List ℕ) (a₂ : ℕ) (b₃ : List ℕ) (a₃ : ℕ) (b₄ : List ℕ) (a₄ : ℕ) (b₅ : List ℕ) (a₅ : ℕ) (new : List ℕ) (r : ℕ) → at + endSize e ≤ length old → Put old at (replicate (e .first) 83) b₁ a₁ → Put b₁ a₁ (replicate (e .h) 72) b₂ a₂ → Put b₂ a₂ (replicate (e .i) 73) b₃ a₃ → Put b₃ a₃ (replicate (e .x) 88) b₄ a₄ → Put b₄ a₄ (replicate (e .s) 83) b₅ a₅ → Put b₅ a₅ (replicate (e .w) 87) new r → Put old at (bytes (endWord e)) new r
-put-six old at e b₁ a₁ b₂ a₂ b₃ a₃ b₄ a₄ b₅ a₅ new r h p₁ p₂ p₃ p₄ p₅ p₆ =
-    subst (λ (w : List ℕ). Put old at w new r) (end-bytes e)
-    (put-run old at w₅ b₅ a₅ 87 (e .w) new r m₅ e₅ (omega arith)
-    (put-run old at w₄ b₄ a₄ 83 (e .s) b₅ a₅ m₄ e₄ (omega arith)
-    (put-run old at w₃ b₃ a₃ 88 (e .x) b₄ a₄ m₃ e₃ (omega arith)
-    (put-run old at w₂ b₂ a₂ 73 (e .i) b₃ a₃ m₂ e₂ (omega arith)
-    (put-run old at w₁ b₁ a₁ 72 (e .h) b₂ a₂ m₁ e₁ (omega arith) p₁ p₂) p₃) p₄) p₅) p₆)
-  where
-    w₁ : List ℕ
-    w₁ = replicate (e .first) 83
+pub two : (old : List ℕ) (at x m y n : ℕ) (mid : List ℕ) (a : ℕ) (new : List ℕ) (r : ℕ) → at + (m + n) ≤ length old → Put old at (replicate m x) mid a → Put mid a (replicate n y) new r → Put old at (replicate m x ++ replicate n y) new r
+two old at x m y n mid a new r h p q = put-more old at (replicate m x) mid a p (omega (arith, replicated m x)) (replicate n y) new r q
 
-    m₁ : ℕ
-    m₁ = e .first
-
-    e₁ : length w₁ ≡ m₁
-    e₁ = replicated (e .first) 83
-
-    w₂ : List ℕ
-    w₂ = w₁ ++ replicate (e .h) 72
-
-    m₂ : ℕ
-    m₂ = e .first + e .h
-
-    e₂ : length w₂ ≡ m₂
-    e₂ = omega (arith, e₁, length-append w₁ (replicate (e .h) 72), replicated (e .h) 72)
-
-    w₃ : List ℕ
-    w₃ = w₂ ++ replicate (e .i) 73
-
-    m₃ : ℕ
-    m₃ = e .first + e .h + e .i
-
-    e₃ : length w₃ ≡ m₃
-    e₃ = omega (arith, e₂, length-append w₂ (replicate (e .i) 73), replicated (e .i) 73)
-
-    w₄ : List ℕ
-    w₄ = w₃ ++ replicate (e .x) 88
-
-    m₄ : ℕ
-    m₄ = e .first + e .h + e .i + e .x
-
-    e₄ : length w₄ ≡ m₄
-    e₄ = omega (arith, e₃, length-append w₃ (replicate (e .x) 88), replicated (e .x) 88)
-
-    w₅ : List ℕ
-    w₅ = w₄ ++ replicate (e .s) 83
-
-    m₅ : ℕ
-    m₅ = e .first + e .h + e .i + e .x + e .s
-
-    e₅ : length w₅ ≡ m₅
-    e₅ = omega (arith, e₄, length-append w₄ (replicate (e .s) 83), replicated (e .s) 83)
-
--- where a run ends, and that its buffer is as long
+-- where two runs end, and that their buffer is as long
 pub record Ran (at n : ℕ) (old new : List ℕ) (r : ℕ) : Type 0 where
   pub next : r ≡ at + n
   pub long : length new ≡ length old
 
-pub ran : (old : List ℕ) (at x n : ℕ) (new : List ℕ) (r : ℕ) → Put old at (replicate n x) new r → length new ≡ length old → Ran at n old new r
-ran old at x n new r p k = record { next = p .next ∙ ap (λ m. at + m) (replicated n x); long = k }
+pub ran-one : (old : List ℕ) (at x n : ℕ) (new : List ℕ) (r : ℕ) → Put old at (replicate n x) new r → length new ≡ length old → Ran at n old new r
+ran-one old at x n new r p k = record { next = p .next ∙ ap (λ m. at + m) (replicated n x); long = k }
+
+pub ran-two : (old : List ℕ) (at x m y n : ℕ) (new : List ℕ) (r : ℕ) → Put old at (replicate m x ++ replicate n y) new r → length new ≡ length old → Ran at (m + n) old new r
+ran-two old at x m y n new r p k = record { next = p .next ∙ ap (λ j. at + j) (two-length m x n y); long = k }
+
+pub put-ends : (old : List ℕ) (at : ℕ) (e : Ending) (b₁ : List ℕ) (a₁ : ℕ) (b₂ : List ℕ) (a₂ : ℕ) (new : List ℕ) (r : ℕ) → at + endSize e ≤ length old → Put old at (replicate (e .first) 83 ++ replicate (e .h) 72) b₁ a₁ → Put b₁ a₁ (replicate (e .i) 73 ++ replicate (e .x) 88) b₂ a₂ → Put b₂ a₂ (replicate (e .s) 83 ++ replicate (e .w) 87) new r → Put old at (bytes (endWord e)) new r
+put-ends old at e b₁ a₁ b₂ a₂ new r h p₁ p₂ p₃ =
+    subst (λ (w : List ℕ). Put old at w new r) (end-bytes e)
+    (put-more old at (w₁ ++ w₂) b₂ a₂ (put-more old at w₁ b₁ a₁ p₁ (omega (arith, two-length (e .first) 83 (e .h) 72)) w₂ b₂ a₂ p₂)
+    (omega (arith, two-length (e .first) 83 (e .h) 72, two-length (e .i) 73 (e .x) 88, length-append w₁ w₂)) (replicate (e .s) 83 ++ replicate (e .w) 87) new r p₃)
+  where
+    w₁ : List ℕ
+    w₁ = replicate (e .first) 83 ++ replicate (e .h) 72
+
+    w₂ : List ℕ
+    w₂ = replicate (e .i) 73 ++ replicate (e .x) 88
 
 -- ---- the whole
 pub answered-by : (phase : Bool) (w items : List ℕ) (r : Reading) (old : List ℕ) (n : Written) (new : List ℕ) → length w ≤ 4096 → Inside w (length w) → Holds items r (run start (lettersOf w)) → Writes phase items r old n new → Outcome (Answers phase) w old n new

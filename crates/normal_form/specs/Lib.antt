@@ -11,3 +11,4 @@ pub mod Letters
 pub mod Put
 pub mod Endings
 pub mod Answers
+pub mod Theorems

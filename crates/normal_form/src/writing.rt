@@ -1,7 +1,7 @@
 // Normal words into a lent buffer. The length and the T letters are known before a byte is written.
 ghost use mathlib.Core.Path.{_≡_};
 ghost use mathlib.Core.Bool.{cond};
-ghost use mathlib.Core.List.{[], _∷_};
+ghost use mathlib.Core.List.{[], _∷_, _++_};
 ghost use Prim.Native.Nat.{_+_, _≤_, _<_};
 ghost use lib.Dec.{eqb};
 ghost use lib.ListN.{length, replicate, take};
@@ -99,7 +99,7 @@ impl Ending {
     }
 }
 
-fn put_letter(buf: &mut [u8], at: usize, letter: u8) -> usize
+pub fn put_letter(buf: &mut [u8], at: usize, letter: u8) -> usize
     requires { ⌜ at < length (now buf) ⌝ }
     ensures { λ r. ⌜ Put (now (buf .entry)) at (letter ∷ []) (now (buf .exit)) r ⌝ }
 {
@@ -107,7 +107,7 @@ fn put_letter(buf: &mut [u8], at: usize, letter: u8) -> usize
     at + 1
 }
 
-fn put_times(buf: &mut [u8], at: usize, letter: u8, n: usize) -> usize
+pub fn put_times(buf: &mut [u8], at: usize, letter: u8, n: usize) -> usize
     requires { ⌜ at + n ≤ length (now buf) ⌝ }
     ensures { λ r. ⌜ Put (now (buf .entry)) at (replicate n letter) (now (buf .exit)) r ⌝ }
 {
@@ -117,6 +117,14 @@ fn put_times(buf: &mut [u8], at: usize, letter: u8, n: usize) -> usize
         j += 1;
     }
     at + n
+}
+
+fn put_two(buf: &mut [u8], at: usize, first: u8, m: usize, second: u8, n: usize) -> usize
+    requires { ⌜ at + (m + n) ≤ length (now buf) ⌝ }
+    ensures { λ r. ⌜ Put (now (buf .entry)) at (replicate m first ++ replicate n second) (now (buf .exit)) r ⌝ }
+{
+    let middle = put_times(buf, at, first, m);
+    put_times(buf, middle, second, n)
 }
 
 fn put_syllable(buf: &mut [u8], at: usize, s: Syllable) -> usize
@@ -152,7 +160,7 @@ fn put_syllables(buf: &mut [u8], items: &[u8; 4096], count: usize) -> usize
     at
 }
 
-fn put_ending(buf: &mut [u8], at: usize, e: Ending) -> usize
+pub fn put_ending(buf: &mut [u8], at: usize, e: Ending) -> usize
     requires { ⌜ at + endSize e ≤ length (now buf) ⌝ }
     ensures { λ r. ⌜ Put (now (buf .entry)) at (bytes (endWord e)) (now (buf .exit)) r ⌝ }
 {
@@ -162,12 +170,9 @@ fn put_ending(buf: &mut [u8], at: usize, e: Ending) -> usize
     let x = e.x;
     let s = e.s;
     let w = e.w;
-    let a = put_times(buf, at, b'S', first);
-    let b = put_times(buf, a, b'H', h);
-    let c = put_times(buf, b, b'I', i);
-    let d = put_times(buf, c, b'X', x);
-    let f = put_times(buf, d, b'S', s);
-    put_times(buf, f, b'W', w)
+    let a = put_two(buf, at, b'S', first, b'H', h);
+    let b = put_two(buf, a, b'I', i, b'X', x);
+    put_two(buf, b, b'S', s, b'W', w)
 }
 
 // The word of a reading, if there is room for it.

@@ -1,14 +1,16 @@
 -- A machine's ring number as the exact one, and its size. Assumes nothing.
-use mathlib.Core.Path.{_≡_, refl, sym, _∙_}
+use mathlib.Core.Path.{_≡_, refl, sym, _∙_, ap}
 use mathlib.Core.List.{List, [], _∷_}
-use Prim.Native.Nat.{ℕ, _≤_, _^_}
-use lib.IntN.{ℤ, pos, negℤ, _-ℤ_}
-use Rattle.exact.specs.Meaning.Number.{Quad, Ω, ints, mulQ, omega′}
+use Prim.Native.Nat.{ℕ, _-_, _≤_, _^_}
+use native.Mathlib.Omega.{arith}
+use lib.IntN.{ℤ, pos, negℤ, natAbs, _-ℤ_}
+use Rattle.exact.specs.Meaning.Number.{Quad, Ω, ints, quads, power, mulQ, omega′, omega^}
+use Rattle.exact.specs.Whole.Parity.{half}
 use Rattle.exact.specs.Algebra.Ring.{ints-laws}
-use Rattle.exact.specs.Algebra.Solver.{con, _⊝_, ⊖, exprs}
+use Rattle.exact.specs.Algebra.Solver.{Expr, con, _⊝_, ⊖, exprs}
 use Rattle.exact.specs.Algebra.Omega.{quad-path, X₀, parts, solveQ}
 use Rattle.exact.specs.Meaning.Number.{Sized}
-use Rattle.exact.specs.Whole.Size.{Within}
+use Rattle.exact.specs.Whole.Size.{Within, natAbs-sub}
 use Rattle.ring.specs.declared.ZOmega.{ZOmega}
 
 abbrev pub quad : ZOmega → Ω
@@ -24,3 +26,32 @@ four x xs = x .a ∷ x .b ∷ x .c ∷ x .d ∷ xs
 -- times omega, as the machine does it
 pub turned : (x : Ω) → mulQ ints (omega′ ints) x ≡ record { a = x .b; b = x .c; c = x .d; d = pos 0 -ℤ x .a }
 turned x = solveQ ints ints-laws (parts x []) (mulQ exprs (omega′ exprs) X₀) (record { a = X₀ .b; b = X₀ .c; c = X₀ .d; d = con (pos 0) ⊝ X₀ .a }) (tt, tt, tt, tt)
+
+-- each half, rounded down
+abbrev pub halves : Ω → Ω
+halves x = record { a = half (x .a); b = half (x .b); c = half (x .c); d = half (x .d) }
+
+-- ---- by the inverse of omega, once, twice and three times
+abbrev turns : ℕ → Quad Expr
+turns j = mulQ exprs (power (quads exprs) (omega′ exprs) j) X₀
+
+module _ (x : Ω) where
+  pub turned-back : mulQ ints (omega^ 7) x ≡ record { a = pos 0 -ℤ x .d; b = x .a; c = x .b; d = x .c }
+  turned-back = solveQ ints ints-laws (parts x []) (turns 7) (record { a = con (pos 0) ⊝ X₀ .d; b = X₀ .a; c = X₀ .b; d = X₀ .c }) (tt, tt, tt, tt)
+
+  pub turned-whole : x ≡ mulQ ints (omega^ 8) x
+  turned-whole = solveQ ints ints-laws (parts x []) X₀ (turns 8) (tt, tt, tt, tt)
+
+  pub turned-twice : mulQ ints (omega^ 7) (mulQ ints (omega^ 7) x) ≡ mulQ ints (omega^ 6) x
+  turned-twice = solveQ ints ints-laws (parts x []) (mulQ exprs (power (quads exprs) (omega′ exprs) 7) (turns 7)) (turns 6) (tt, tt, tt, tt)
+
+  pub turned-thrice : mulQ ints (omega^ 7) (mulQ ints (omega^ 6) x) ≡ mulQ ints (omega^ 5) x
+  turned-thrice = solveQ ints ints-laws (parts x []) (mulQ exprs (power (quads exprs) (omega′ exprs) 7) (turns 6)) (turns 5) (tt, tt, tt, tt)
+
+pub small-back : {x r : ZOmega} → Small x → quad r ≡ mulQ ints (omega^ 7) (quad x) → Small r
+small-back {x} s e =
+    record { sized = rw (e ∙ turned-back (quad x)) (record { a-small = omega (arith, natAbs-sub (pos 0) (x .d), s .sized .d-small); b-small = s .sized .a-small; c-small = s .sized .b-small; d-small = s .sized .c-small }) }
+
+-- what a number is by the power that m is
+pub power-at : {y : Ω} (x : Ω) (m j : ℕ) → m ≡ j → y ≡ mulQ ints (omega^ (8 - j)) x → y ≡ mulQ ints (omega^ (8 - m)) x
+power-at x m j e h = h ∙ ap (λ i. mulQ ints (omega^ (8 - i)) x) (sym e)

@@ -1,12 +1,12 @@
 // Ring numbers a·omega^3 + b·omega^2 + c·omega + d with 64-bit coefficients, after src/ring in the Rust.
 ghost use mathlib.Core.Path.{_≡_};
-ghost use Prim.Native.Nat.{_^_};
+ghost use Prim.Native.Nat.{_^_, _-_, _≤_, _<_};
 ghost use Rattle.exact.specs.Meaning.Number.{Sized};
-ghost use Rattle.exact.specs.Meaning.Number.{ints, addQ, negQ, mulQ, omega′, residue};
+ghost use Rattle.exact.specs.Meaning.Number.{ints, addQ, negQ, mulQ, omega′, omega^, bit, residue};
 ghost use Rattle.exact.specs.Meaning.Number as Meaning;
 ghost use Rattle.exact.specs.Meaning.Triple.{squares, crosses};
 ghost use Rattle.exact.specs.Algebra.Over.{divides, over};
-ghost use Rattle.ring.specs.Number.{quad, Small};
+ghost use Rattle.ring.specs.Number.{quad, Small, halves};
 
 pub struct ZOmega {
     pub a: i64,
@@ -20,6 +20,13 @@ pub fn odd(x: i64) -> bool
     ensures { λ r. ⌜ r ≡ Meaning.odd x ⌝ }
 {
     x & 1 != 0
+}
+
+// The parity as a number.
+fn parity(x: i64) -> u8
+    ensures { λ r. ⌜ (r ≡ bit (Meaning.odd x)) × (r ≤ 1) ⌝ }
+{
+    if odd(x) { 1 } else { 0 }
 }
 
 impl ZOmega {
@@ -129,5 +136,73 @@ impl ZOmega {
             c: (b + d) >> 1,
             d: (c - a) >> 1,
         }
+    }
+
+    // Each coefficient shifted right by one.
+    pub fn halved(self) -> ZOmega
+        requires { ⌜ Small self ⌝ }
+        ensures { λ r. ⌜ quad r ≡ halves (quad self) ⌝ }
+    {
+        let a = self.a;
+        let b = self.b;
+        let c = self.c;
+        let d = self.d;
+        ZOmega {
+            a: a >> 1,
+            b: b >> 1,
+            c: c >> 1,
+            d: d >> 1,
+        }
+    }
+
+    // The four parities, a in the highest bit.
+    pub fn residue(self) -> u8
+        requires { ⌜ Small self ⌝ }
+        ensures { λ r. ⌜ r ≡ residue (quad self) ⌝ }
+    {
+        let a = self.a;
+        let b = self.b;
+        let c = self.c;
+        let d = self.d;
+        let p = parity(a);
+        let q = parity(b);
+        let r = parity(c);
+        let s = parity(d);
+        p * 8 + q * 4 + r * 2 + s
+    }
+
+    pub fn mul_by_omega_inv(self) -> ZOmega
+        requires { ⌜ Small self ⌝ }
+        ensures { λ r. ⌜ quad r ≡ mulQ ints (omega^ 7) (quad self) ⌝ }
+    {
+        let a = self.a;
+        let b = self.b;
+        let c = self.c;
+        let d = self.d;
+        ZOmega {
+            a: -d,
+            b: a,
+            c: b,
+            d: c,
+        }
+    }
+
+    // By omega to the power -m.
+    pub fn mul_by_omega_inv_power(self, m: u8) -> ZOmega
+        requires { ⌜ Small self ⌝ ∗ ⌜ m < 4 ⌝ }
+        ensures { λ r. ⌜ quad r ≡ mulQ ints (omega^ (8 - m)) (quad self) ⌝ }
+    {
+        if m == 0 {
+            return self;
+        }
+        let x = self.mul_by_omega_inv();
+        if m == 1 {
+            return x;
+        }
+        let y = x.mul_by_omega_inv();
+        if m == 2 {
+            return y;
+        }
+        y.mul_by_omega_inv()
     }
 }

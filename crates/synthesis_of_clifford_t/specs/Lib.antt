@@ -9,3 +9,8 @@ pub mod Tees
 pub mod Loop
 pub mod Cases
 pub mod Outcome
+pub mod Code
+pub mod Closes
+pub mod Parts
+pub mod Answer
+pub mod Useless

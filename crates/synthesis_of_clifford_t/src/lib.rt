@@ -1,7 +1,25 @@
-// Exact synthesis (src/synthesis_of_clifford_t.rs in the Rust): what a step reads off the residues of z and w. specs/ has its mathematics.
+// Exact synthesis, job 4 (src/synthesis_of_clifford_t.rs in the Rust). specs/ has its mathematics.
 ghost use mathlib.Core.Path.{_≡_};
-ghost use Prim.Native.Nat.{_<_};
+ghost use Prim.Native.Nat.{_+_, _≤_, _<_};
+ghost use lib.ListN.{length};
+ghost use Rattle.exact.specs.Meaning.Word.{bytes};
+ghost use Rattle.exact.specs.Meaning.Limits.{deepest};
+ghost use Rattle.exact.specs.Algebra.OmegaPower.{which};
+ghost use Rattle.ring.specs.Number.{quad, Small};
+ghost use Rattle.unitary.specs.Triples.{triple};
+ghost use Rattle.unitary.specs.Acts.{Good};
+ghost use Rattle.normal_form.specs.Put.{Put};
 ghost use Rattle.synthesis_of_clifford_t.specs.Residues.{bitShift, bitCount, powerBy, fallsBy};
+ghost use Rattle.synthesis_of_clifford_t.specs.Step.{block, reduction};
+ghost use Rattle.synthesis_of_clifford_t.specs.Closing.{closing};
+ghost use Rattle.synthesis_of_clifford_t.specs.Steps.{letters};
+ghost use Rattle.synthesis_of_clifford_t.specs.Outcome.{SynthesiseOutcome};
+ghost use Rattle.synthesis_of_clifford_t.specs.Code.{answerOf};
+ghost use Rattle.synthesis_of_clifford_t.specs.Closes.{signOf, closingBy, Closes};
+ghost use Rattle.synthesis_of_clifford_t.specs.Answer.{AnsweredBy};
+use normal_form::writing::Ending;
+use ring::ZOmega;
+use unitary::DOmegaUnitary;
 
 // What job 4 hands back: the refusal or 0, the bytes written and the T letters among them.
 pub struct Synthesis {
@@ -44,4 +62,186 @@ pub fn falls(z: usize, w: usize) -> bool
     ensures { λ r. ⌜ r ≡ fallsBy z w ⌝ }
 {
     bit_count(z) == bit_count(w)
+}
+
+// ---- a step
+
+// m and the next matrix, or none.
+pub enum Reduction {
+    Step(u8, DOmegaUnitary),
+    Ended,
+}
+
+// The step at a reduced unitary triple: H·T^-m from the left, then as many divisions by root two as there are.
+pub fn reduce_denomexp(t: DOmegaUnitary) -> Reduction
+    requires { ⌜ Good t ⌝ ∗ ⌜ t .k ≤ deepest ⌝ }
+    ensures { λ r. ⌜ answerOf r ≡ reduction (triple t) ⌝ }
+{
+    if t.k == 0 {
+        return Reduction::Ended;
+    }
+    let z = t.z;
+    let w = t.w;
+    let p = z.residue();
+    let q = w.residue();
+    let m = power(p as usize, q as usize);
+    let turned = t.mul_by_t_inv_power_from_left(m);
+    let raised = turned.mul_by_h_from_left();
+    if falls(p as usize, q as usize) {
+        let next = raised.halved();
+        return Reduction::Step(m, next);
+    }
+    let next = raised.lowered();
+    Reduction::Step(m, next)
+}
+
+// The letters of a step, T^m·H with S for TT, from the start of the free rest.
+fn write_block(rest: &mut [u8], m: u8) -> usize
+    requires { ⌜ m < 4 ⌝ ∗ ⌜ length (block m) ≤ length (now rest) ⌝ }
+    ensures { λ r. ⌜ Put (now (rest .entry)) 0 (bytes (block m)) (now (rest .exit)) r ⌝ }
+{
+    let a = normal_form::writing::put_times(rest, 0, b'T', (m % 2) as usize);
+    let b = normal_form::writing::put_times(rest, a, b'S', (m / 2) as usize);
+    normal_form::writing::put_letter(rest, b, b'H')
+}
+
+// ---- the end
+
+// What closes a word at k = 0: T or none, and a tail of X, S and W.
+pub struct Closing {
+    pub tees: usize,
+    pub tail: Ending,
+}
+
+fn by_sign(x: i64, i: u8, j: u8) -> u8
+    ensures { λ r. ⌜ r ≡ signOf x i j ⌝ }
+{
+    if x < 0 { j } else { i }
+}
+
+// Which power of omega it is.
+fn power_of_omega(x: ZOmega) -> u8
+    requires { ⌜ Small x ⌝ }
+    ensures { λ r. ⌜ r ≡ which (quad x) ⌝ }
+{
+    let a = x.a;
+    let b = x.b;
+    let c = x.c;
+    let d = x.d;
+    if ring::odd(d) {
+        return by_sign(d, 0, 4);
+    }
+    if ring::odd(c) {
+        return by_sign(c, 1, 5);
+    }
+    if ring::odd(b) {
+        return by_sign(b, 2, 6);
+    }
+    by_sign(a, 3, 7)
+}
+
+// T where n is odd, X x times, W m times: what is left of n, two for each S.
+fn closing_by(n: u8, x: u8, m: u8) -> Closing
+    requires { ⌜ n < 8 ⌝ ∗ ⌜ x ≤ 1 ⌝ ∗ ⌜ m < 8 ⌝ }
+    ensures { λ r. ⌜ r ≡ closingBy n x m ⌝ }
+{
+    let lead = n % 2;
+    let s = (n + 4 * x + 16 - (lead + 2 * m)) % 8 / 2;
+    let tail = Ending {
+        first: 0,
+        h: 0,
+        i: 0,
+        x: x as usize,
+        s: s as usize,
+        w: m as usize,
+    };
+    Closing {
+        tees: lead as usize,
+        tail: tail,
+    }
+}
+
+// At k = 0 the eight squares sum to 1, so z is 0 where its residue is.
+fn closing_of(t: DOmegaUnitary) -> Closing
+    requires { ⌜ Good t ⌝ ∗ ⌜ t .k ≡ 0 ⌝ }
+    ensures { λ r. ⌜ Closes (triple t) r ⌝ }
+{
+    let z = t.z;
+    let w = t.w;
+    let n = t.n;
+    if z.residue() == 0 {
+        let u = w.mul_by_omega_inv_power(n % 2);
+        let m = power_of_omega(u);
+        return closing_by(n, 1, m);
+    }
+    let m = power_of_omega(z);
+    closing_by(n, 0, m)
+}
+
+// The closing letters, from the start of the free rest.
+fn write_closing(rest: &mut [u8], t: DOmegaUnitary) -> usize
+    requires { ⌜ Good t ⌝ ∗ ⌜ t .k ≡ 0 ⌝ ∗ ⌜ length (closing (triple t)) ≤ length (now rest) ⌝ }
+    ensures { λ r. ⌜ Put (now (rest .entry)) 0 (bytes (closing (triple t))) (now (rest .exit)) r ⌝ }
+{
+    let c = closing_of(t);
+    let tees = c.tees;
+    let tail = c.tail;
+    let a = normal_form::writing::put_times(rest, 0, b'T', tees);
+    normal_form::writing::put_ending(rest, a, tail)
+}
+
+// ---- job 4
+
+// The letters that a reduced triple is taken apart into, from the start of a working buffer; their number is handed back.
+pub fn decompose_domega_unitary(t: DOmegaUnitary, work: &mut [u8]) -> usize
+    requires { ⌜ Good t ⌝ ∗ ⌜ t .k ≤ deepest ⌝ ∗ ⌜ 372 ≤ length (now work) ⌝ }
+    ensures { λ r. ⌜ Put (now (work .entry)) 0 (bytes (letters (triple t))) (now (work .exit)) r ⌝ }
+{
+    let mut u = t;
+    let mut len: usize = 0;
+    while u.k > 0 {
+        let Reduction::Step(m, next) = reduce_denomexp(u) else {
+            return 0;
+        };
+        len += write_block(&mut work[len..], m);
+        u = next;
+    }
+    len + write_closing(&mut work[len..], u)
+}
+
+// The normal word of a reduced triple.
+fn answer(t: DOmegaUnitary, buf: &mut [u8]) -> Synthesis
+    requires { ⌜ Good t ⌝ ∗ ⌜ t .k ≤ deepest ⌝ }
+    ensures { λ r. ⌜ AnsweredBy (triple t) (now (buf .entry)) r (now (buf .exit)) ⌝ }
+{
+    let mut work = [0u8; 384];
+    let len = decompose_domega_unitary(t, &mut work);
+    let r = normal_form::normalise(&work[..len], buf);
+    Synthesis {
+        refusal: r.refusal,
+        bytes: r.bytes,
+        tees: r.tees,
+    }
+}
+
+// Job 4: the normal word whose matrix is the triple's. An unreduced triple is reduced first.
+pub fn synthesise(k: i64, n: u8, z: ZOmega, w: ZOmega, buf: &mut [u8]) -> Synthesis
+    ensures { λ r. ⌜ SynthesiseOutcome k n z w (now (buf .entry)) r (now (buf .exit)) ⌝ }
+{
+    let refusal = unitary::check(k, z, w);
+    if refusal != exact::ACCEPTED {
+        return Synthesis {
+            refusal: refusal,
+            bytes: 0,
+            tees: 0,
+        };
+    }
+    let t = DOmegaUnitary {
+        z: z,
+        w: w,
+        n: n,
+        k: k as u8,
+    };
+    let s = t.reduce_denomexp();
+    answer(s, buf)
 }

@@ -5,23 +5,23 @@ use native.Mathlib.Omega.{arith}
 use lib.Dec.{T}
 use lib.IntN.{pos, _+ℤ_}
 use borrow.Author.Tests.{ne-eqb}
-use Prim.Native.Nat.{ℕ, zero, suc, _≤_, _<_, _+_, _%_, _^_}
+use Prim.Native.Nat.{ℕ, zero, suc, _≤_, _<_, _+_, _-_, _%_, _^_}
 use Rattle.exact.specs.Meaning.Matrix.{Same, _·_, unit}
 use Rattle.exact.specs.Meaning.Word.{Letter, I, H, S, X, W, T′, letter}
 use Rattle.exact.specs.Cases.Letters.{letterOf}
 use Rattle.exact.specs.Meaning.Triple.{Triple, entries, Unitary, Reduced}
 use Rattle.exact.specs.Meaning.Limits.{deepest}
-use Rattle.exact.specs.Meaning.Number.{Ω, ints, omegas, addQ, negQ, mulQ, constQ, omega′, omega^, odd, Sized}
+use Rattle.exact.specs.Meaning.Number.{Ω, ints, omegas, negQ, mulQ, omega′, omega^, odd, Sized}
 use Rattle.exact.specs.Whole.Parity.{odd-add, odd-sub, xr-comm}
 use Rattle.exact.specs.Algebra.Solver.{con, _⊗_, ring₂}
 use Rattle.exact.specs.Algebra.Omega.{omegas-laws, times-omega}
-use Rattle.exact.specs.Algebra.Over.{divides, over}
+use Rattle.exact.specs.Algebra.Over.{divides}
 use Rattle.exact.specs.Matrices.Same.{Same-refl, Same-sym, Same-trans, Same-of, Same-mul, mul-assoc, unit-mul}
 use Rattle.exact.specs.Matrices.Test.{same-by}
 use Rattle.exact.specs.Matrices.Triples.{act, acts, unitary-same, unitary-act}
 use Rattle.exact.specs.Matrices.Sizes.{z-sized, w-sized, sized-le, add-sized, neg-sized, omega-sized, over-sized}
 use Rattle.exact.specs.Matrices.Least.{lowered, lowered-same, modEight, modEight-same, test-reduced, reduced-test, reducedTest, lowest}
-use Rattle.ring.specs.Number.{quad, Small}
+use Rattle.ring.specs.Number.{quad, Small, halves}
 use Rattle.ring.specs.declared.ZOmega.{ZOmega}
 use Rattle.unitary.specs.Triples.{triple}
 use Rattle.unitary.specs.Outcomes.{Answers}
@@ -51,6 +51,15 @@ small-turned {x} s e = record { sized = rw e (omega-sized (2 ^ 31) (quad x) (s .
 
 pub twice-turned : {r : Ω} (x : Ω) → r ≡ mulQ ints (omega′ ints) x → mulQ ints (omega′ ints) r ≡ mulQ ints (omega^ 2) x
 twice-turned x e = ap (mulQ ints (omega′ ints)) e ∙ ring₂ omegas omegas-laws (λ o x. o ⊗ (o ⊗ x)) (λ o x. o ⊗ (o ⊗ con (pos 1)) ⊗ x) tt (omega′ ints) x
+
+-- ---- what synthesis takes off
+-- T to the power -m, m at most 8
+abbrev pub turnedBack : ℕ → Triple → Triple
+turnedBack m t = record { k = t .k; n = t .n + (8 - m); z = t .z; w = mulQ ints (omega^ (8 - m)) (t .w) }
+
+-- z and w halved, as two divisions do
+abbrev pub halved : Triple → Triple
+halved t = record { k = t .k - 2; n = t .n; z = halves (t .z); w = halves (t .w) }
 
 -- ---- reducing, one division after the other
 pub record Lowering (s t : DOmegaUnitary) : Type 0 where

@@ -1,19 +1,19 @@
 -- The checks of jobs 1, 4 and 7: what each test says. Assumes nothing.
 use mathlib.Core.Path.{_≡_, refl, sym, _∙_, ap, ap₂, subst}
-use mathlib.Core.Bool.{Bool, true, false, not, _&&_}
-use mathlib.Core.List.{List, [], _∷_}
-use Prim.Native.Nat.{ℕ, zero, suc, _+_, _*_, _%_, _^_, _≤_, _<_}
+use mathlib.Core.Bool.{Bool, true, false, _&&_}
+use mathlib.Core.List.{[], _∷_}
+use Prim.Native.Nat.{ℕ, _*_, _%_, _^_, _≤_, _<_}
 use native.Mathlib.Nat.{mod-eq-of-lt, one-mul}
 use native.Mathlib.Omega.{arith}
 use borrow.Author.Tests.{leb-true, leb-false, ltb-true, ltb-false, eqb-true, eqb-false}
-use lib.Dec.{T, leb, ltb, eqb, leb→le, le→leb}
-use lib.IntN.{ℤ, pos, negsuc, natAbs, _+ℤ_, _-ℤ_}
+use lib.Dec.{T, eqb, leb→le, le→leb}
+use lib.IntN.{ℤ, pos, negsuc, natAbs, _-ℤ_}
 use lib.Pow.{pow-mono}
-use lib.Signed.{_≤ℤ_, leZ, ltZ, nonNeg, mag}
+use lib.Signed.{leZ, ltZ, nonNeg, mag}
 use mir.Syntax.{w8, w64}
 use mir.Val.{SFits, Fits, toZ, ofZ}
 use mir.Facts.{toZ-ofZ, toZ-pos}
-use Rattle.exact.specs.Meaning.Number.{Ω, ints, Sized}
+use Rattle.exact.specs.Meaning.Number.{ints}
 use Rattle.exact.specs.Meaning.Triple.{Triple, squares, crosses, Unitary}
 use Rattle.exact.specs.Meaning.Limits as Limits
 use Rattle.exact.specs.Meaning.Limits.{largest, deepest}

@@ -6,3 +6,4 @@ pub mod Acts
 pub mod Letters
 pub mod Reading
 pub mod Unique
+pub mod Useless

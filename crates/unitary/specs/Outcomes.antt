@@ -1,12 +1,11 @@
 -- What jobs 1 and 2 promise, for every input, in document 01's words; and that two outcomes which meet the promise are equal. Assumes nothing.
-use mathlib.Core.Path.{_≡_, refl, sym, _∙_, ap}
+use mathlib.Core.Path.{_≡_}
 use mathlib.Core.List.{List}
 use Prim.Native.Nat.{ℕ, _≤_, _<_}
-use native.Mathlib.Omega.{arith}
 use lib.IntN.{ℤ, pos}
-use lib.ListN.{length, drop}
+use lib.ListN.{length}
 use lib.Signed.{_≤ℤ_}
-use Rattle.exact.specs.Meaning.Matrix.{Same, Least}
+use Rattle.exact.specs.Meaning.Matrix.{Same}
 use Rattle.exact.specs.Meaning.Word.{Letter, word, bytes, job2, FirstOutside}
 use Rattle.exact.specs.Meaning.Triple.{Triple, entries, Unitary, Reduced}
 use Rattle.exact.specs.Meaning.Endings.{AllShallow, DeepAt}

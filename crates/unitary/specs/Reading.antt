@@ -1,20 +1,19 @@
 -- Reading a word from its right end: what is known of the ending that has been read. Assumes nothing.
-use mathlib.Core.Path.{_≡_, refl, sym, _∙_, ap, subst}
+use mathlib.Core.Path.{_≡_, refl, sym, ap, subst}
 use mathlib.Core.Bool.{Bool, true, false}
 use mathlib.Core.List.{List, [], _∷_}
-use Prim.Native.Nat.{ℕ, zero, suc, _+_, _-_, _≤_, _<_}
+use Prim.Native.Nat.{ℕ, zero, suc, _-_, _≤_, _<_}
 use native.Mathlib.Omega.{arith}
 use borrow.Author.Tests.{eqb-true, eqb-false}
 use lib.Dec.{eqb}
-use lib.IntN.{pos}
 use lib.ListN.{length, drop, getD}
-use Rattle.exact.specs.Meaning.Matrix.{Same, Least, _·_}
-use Rattle.exact.specs.Meaning.Word.{Letter, letter, word, bytes, In, job2}
+use Rattle.exact.specs.Meaning.Matrix.{Same, Least}
+use Rattle.exact.specs.Meaning.Word.{Letter, letter, word, In, job2}
 use Rattle.exact.specs.Meaning.Triple.{entries}
-use Rattle.exact.specs.Meaning.Endings.{Shallow, Deep, AllShallow, DeepAt}
+use Rattle.exact.specs.Meaning.Endings.{Shallow, DeepAt}
 use Rattle.exact.specs.Meaning.Limits.{longest, deepest}
 use Rattle.exact.specs.Cases.Letters.{letterOf, lettersOf}
-use Rattle.exact.specs.Matrices.Same.{Same-refl, Same-sym, Same-trans, Same-of, Same-mul}
+use Rattle.exact.specs.Matrices.Same.{Same-refl, Same-trans, Same-of, Same-mul}
 use Rattle.exact.specs.Matrices.Least.{least-same, test-reduced}
 use Rattle.exact.specs.Matrices.Triples.{identity}
 use Rattle.unitary.specs.declared.DOmegaUnitary.{DOmegaUnitary}

@@ -1,5 +1,5 @@
 -- A machine's triple as the exact one. Assumes nothing.
-use mathlib.Core.Path.{_≡_, ap}
+use mathlib.Core.Path.{_≡_}
 use Prim.Native.Nat.{ℕ}
 use lib.IntN.{ℤ, pos, natAbs}
 use Rattle.exact.specs.Meaning.Triple.{Triple}

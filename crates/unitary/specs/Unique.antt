@@ -1,24 +1,24 @@
 -- Two outcomes that meet the promise of job 1, or of job 2, for one input are equal. Assumes nothing.
 use mathlib.Core.Path.{_≡_, refl, sym, _∙_, ap, subst}
-use mathlib.Core.Bool.{Bool, true, false}
+use mathlib.Core.Bool.{Bool}
 use mathlib.Core.List.{List, [], _∷_}
-use Prim.Native.Nat.{ℕ, zero, suc, _≤_, _<_}
+use Prim.Native.Nat.{ℕ, zero, suc, _<_}
 use native.Mathlib.Omega.{arith}
 use lib.IntN.{ℤ}
-use lib.ListN.{length, drop, getD}
+use lib.ListN.{length, getD}
 use Rattle.exact.specs.Meaning.Matrix.{Same}
-use Rattle.exact.specs.Meaning.Word.{Letter, word, byte, bytes, In, FirstOutside, job2}
-use Rattle.exact.specs.Meaning.Triple.{entries, Unitary, Reduced}
+use Rattle.exact.specs.Meaning.Word.{Letter, word, bytes, In, FirstOutside, job2}
+use Rattle.exact.specs.Meaning.Triple.{entries, Reduced}
 use Rattle.exact.specs.Meaning.Endings.{Shallow, Deep, AllShallow, DeepAt}
 use Rattle.exact.specs.Cases.Letters.{bytes-inj}
 use Rattle.exact.specs.Matrices.Same.{Same-sym, Same-trans, Same-of}
 use Rattle.exact.specs.Matrices.Least.{least-unique, answer-unique}
-use Rattle.exact.specs.Matrices.Triples.{tripleOf, word-triple, word-unitary, unitary-same}
+use Rattle.exact.specs.Matrices.Triples.{word-triple, word-unitary, unitary-same}
 use Rattle.ring.specs.declared.ZOmega.{ZOmega}
 use Rattle.unitary.specs.declared.DOmegaUnitary.{DOmegaUnitary}
 use Rattle.unitary.specs.declared.Checked.{Checked}
 use Rattle.unitary.specs.declared.FromGates.{FromGates}
-use Rattle.unitary.specs.Triples.{triple, triple-inj, given, none}
+use Rattle.unitary.specs.Triples.{triple, triple-inj, none}
 use Rattle.unitary.specs.Outcomes.{ReduceOutcome, MatrixOutcome}
 
 -- ---- job 1

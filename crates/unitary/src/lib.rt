@@ -14,7 +14,7 @@ ghost use Rattle.unitary.specs.Triples.{triple, none};
 ghost use Rattle.unitary.specs.Outcomes.{InCoefficients, Answers, ReduceOutcome, MatrixOutcome};
 ghost use Rattle.unitary.specs.Checks.{Decides, UnitaryAt, CheckOutcome, bothTest};
 ghost use Rattle.unitary.specs.Letters.{Scanned};
-ghost use Rattle.unitary.specs.Acts.{Good, Acted, Both};
+ghost use Rattle.unitary.specs.Acts.{Good, Acted, Both, halved, turnedBack};
 use ring::ZOmega;
 
 pub struct DOmegaUnitary {
@@ -172,7 +172,7 @@ impl DOmegaUnitary {
     }
 
     // The exponent one lower, z and w divided by root two.
-    fn lowered(self) -> DOmegaUnitary
+    pub fn lowered(self) -> DOmegaUnitary
         requires { ⌜ Small (self .z) ⌝ ∗ ⌜ Small (self .w) ⌝ ∗ ⌜ 0 < self .k ⌝ }
         ensures { λ r. ⌜ Both (λ k. triple r ≡ lowered k (triple self)) (self .k) ⌝ }
     {
@@ -187,6 +187,25 @@ impl DOmegaUnitary {
             w: new_w,
             n: n,
             k: k - 1,
+        }
+    }
+
+    // The exponent two lower, z and w halved.
+    pub fn halved(self) -> DOmegaUnitary
+        requires { ⌜ Small (self .z) ⌝ ∗ ⌜ Small (self .w) ⌝ ∗ ⌜ 1 < self .k ⌝ }
+        ensures { λ r. ⌜ triple r ≡ halved (triple self) ⌝ }
+    {
+        let z = self.z;
+        let w = self.w;
+        let n = self.n;
+        let k = self.k;
+        let new_z = z.halved();
+        let new_w = w.halved();
+        DOmegaUnitary {
+            z: new_z,
+            w: new_w,
+            n: n,
+            k: k - 2,
         }
     }
 
@@ -226,6 +245,31 @@ impl DOmegaUnitary {
             n: (n + 1) % 8,
             k: k,
         }
+    }
+
+    // T to the power -m.
+    pub fn mul_by_t_inv_power_from_left(self, m: u8) -> DOmegaUnitary
+        requires { ⌜ Small (self .w) ⌝ ∗ ⌜ self .n < 8 ⌝ ∗ ⌜ m < 4 ⌝ }
+        ensures { λ r. ⌜ triple r ≡ modEight (turnedBack m (triple self)) ⌝ }
+    {
+        let z = self.z;
+        let w = self.w;
+        let n = self.n;
+        let k = self.k;
+        let turned_w = w.mul_by_omega_inv_power(m);
+        DOmegaUnitary {
+            z: z,
+            w: turned_w,
+            n: (n + (8 - m)) % 8,
+            k: k,
+        }
+    }
+
+    pub fn mul_by_t_inv_from_left(self) -> DOmegaUnitary
+        requires { ⌜ Small (self .w) ⌝ ∗ ⌜ self .n < 8 ⌝ }
+        ensures { λ r. ⌜ triple r ≡ modEight (turnedBack 1 (triple self)) ⌝ }
+    {
+        self.mul_by_t_inv_power_from_left(1)
     }
 
     pub fn mul_by_s_from_left(self) -> DOmegaUnitary

@@ -2,18 +2,18 @@
 -- unitary triple are one equation of ring numbers; and the residues that such a product can have, 1011 not among them. Assumes nothing.
 use mathlib.Core.Path.{_≡_, refl, sym, _∙_, ap, ap₂}
 use mathlib.Core.Bool.{Bool, true, false, not, _&&_}
-use mathlib.Core.List.{List, [], _∷_}
+use mathlib.Core.List.{[]}
 use Prim.Native.Nat.{ℕ, zero, suc, _+_, _*_, _^_}
 use native.Mathlib.Omega.{arith}
-use borrow.Author.Tests.{eqb-false, not-true}
+use borrow.Author.Tests.{eqb-false}
 use lib.Dec.{T, eqb}
-use lib.IntN.{ℤ, pos, negsuc, negℤ, _+ℤ_, _-ℤ_, _*ℤ_, +ℤ-idl}
+use lib.IntN.{ℤ, pos, negℤ, _+ℤ_, _*ℤ_}
 use mir.Facts.{and-yes}
-use Rattle.exact.specs.Meaning.Number.{Quad, Ω, ints, omegas, addQ, mulQ, constQ, conjQ, root2, root2^, odd, bit, residue}
+use Rattle.exact.specs.Meaning.Number.{Ω, ints, omegas, addQ, mulQ, constQ, conjQ, root2, root2^, odd, bit, residue}
 use Rattle.exact.specs.Meaning.Triple.{Triple, squares, crosses, Unitary}
 use Rattle.exact.specs.Whole.Parity.{xr, odd-add, odd-sub, odd-neg, odd-mul}
-use Rattle.exact.specs.Algebra.Ring.{Laws, ints-laws}
-use Rattle.exact.specs.Algebra.Solver.{Expr, con, _⊕_, _⊗_, _⊝_, ⊖, exprs, ring₂}
+use Rattle.exact.specs.Algebra.Ring.{ints-laws}
+use Rattle.exact.specs.Algebra.Solver.{con, _⊕_, _⊗_, ⊖, exprs, ring₂}
 use Rattle.exact.specs.Algebra.Omega.{quad-path, omegas-laws, root2-square, X₀, parts, solveQ}
 
 abbrev pub norm : Ω → Ω

@@ -1,8 +1,7 @@
 -- Division by root two: allowed exactly where b+d and c+a are even, and then (a,b,c,d) is half of (b-d, c+a, b+d, c-a). Assumes nothing.
-use mathlib.Core.Path.{_≡_, refl, sym, _∙_, ap, ap₂}
+use mathlib.Core.Path.{_≡_, refl, _∙_, ap, ap₂}
 use mathlib.Core.Bool.{Bool, true, false, not, _&&_}
-use mathlib.Core.List.{List, [], _∷_}
-use borrow.Author.Tests.{not-true}
+use mathlib.Core.List.{[]}
 use lib.Dec.{T}
 use lib.IntN.{ℤ, _+ℤ_, _-ℤ_}
 use mir.Facts.{and-yes, yes-and}

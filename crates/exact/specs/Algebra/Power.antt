@@ -1,5 +1,5 @@
 -- Powers in any commutative ring: they add, and what can be cancelled once can be cancelled many times. Assumes nothing.
-use mathlib.Core.Path.{_≡_, refl, sym, _∙_, ap, ap₂}
+use mathlib.Core.Path.{_≡_, sym, _∙_, ap}
 use Prim.Native.Nat.{ℕ, zero, suc, _+_}
 use native.Mathlib.Nat.{zero-add, suc-add}
 use Rattle.exact.specs.Meaning.Number.{Ops, power}

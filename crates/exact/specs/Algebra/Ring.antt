@@ -1,7 +1,7 @@
 -- A commutative ring with the whole numbers in it: the laws of its operations (`Laws`), those of the whole numbers, and what follows from the laws.
 -- `const` takes a whole number to the ring; among the whole numbers it is the number itself, so that a literal costs nothing. Assumes nothing.
 use mathlib.Core.Path.{_≡_, refl, sym, _∙_, ap, ap₂}
-use lib.IntN.{ℤ, pos, negℤ, _+ℤ_, _*ℤ_, +ℤ-idl, +ℤ-assoc, +ℤ-comm, +ℤ-invl, +ℤ-invr, *ℤ-comm}
+use lib.IntN.{ℤ, pos, negℤ, _+ℤ_, _*ℤ_, +ℤ-idl, +ℤ-assoc, +ℤ-comm, +ℤ-invr, *ℤ-comm}
 use Rattle.exact.specs.Whole.Laws.{+ℤ-*ℤ, *ℤ-assoc, one-*ℤ}
 use Rattle.exact.specs.Meaning.Number.{Ops, ints}
 

@@ -1,12 +1,11 @@
 -- ℤ[root two], p + q·root two: a commutative ring, and a part of ℤ[omega]: the numbers that are their own conjugates. Root two can be cancelled in it.
 -- Over any ring's operations, so that each law is one computed test. Assumes nothing.
-use mathlib.Core.Path.{_≡_, refl, sym, _∙_, ap}
+use mathlib.Core.Path.{_≡_, refl, ap}
 use mathlib.Core.List.{List, [], _∷_}
-use Prim.Native.Nat.{ℕ}
 use native.Mathlib.Omega.{arith}
 use lib.Dec.{T}
-use lib.IntN.{ℤ, pos, negsuc, negℤ, _+ℤ_}
-use Rattle.exact.specs.Meaning.Number.{Ops, Quad, ints, constQ, addQ, negQ, mulQ, conjQ, root2, Ω}
+use lib.IntN.{ℤ, pos, negℤ}
+use Rattle.exact.specs.Meaning.Number.{Ops, Quad, ints, addQ, mulQ, conjQ, root2, Ω}
 use Rattle.exact.specs.Whole.Linear.{int, negation}
 use Rattle.exact.specs.Whole.Parity.{halved}
 use Rattle.exact.specs.Algebra.Ring.{Laws, ints-laws}

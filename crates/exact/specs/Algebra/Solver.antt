@@ -4,11 +4,11 @@
 -- A norm is in sparse Horner form: `hor p i q` is p·xᵢ + q, and no variable before xᵢ stands in p, nor one before xᵢ₊₁ in q.
 -- That order is what makes the test find an identity; soundness does not rest on it. Assumes nothing.
 use mathlib.Core.Path.{_≡_, refl, sym, _∙_, ap, ap₂, subst⁻¹}
-use mathlib.Core.Bool.{Bool, true, false, _&&_}
+use mathlib.Core.Bool.{Bool, false, _&&_}
 use mathlib.Core.List.{List, [], _∷_}
 use Prim.Native.Nat.{ℕ, zero, suc, compare, Ordering, Ordering·lt, Ordering·eq, Ordering·gt}
 use lib.Dec.{T, eqb, isEq, eqb→eq}
-use lib.IntN.{ℤ, pos, negsuc, negℤ, _+ℤ_, _*ℤ_}
+use lib.IntN.{ℤ, pos, negsuc, _+ℤ_, _*ℤ_}
 use mir.Facts.{and-yes}
 use Rattle.exact.specs.Meaning.Number.{Ops}
 use Rattle.exact.specs.Algebra.Ring as Ring

@@ -11,7 +11,7 @@ use Rattle.exact.specs.Meaning.Number.{ints, constQ, negQ, omega′}
 use Rattle.exact.specs.Meaning.Matrix.{Matrix, Same}
 use Rattle.exact.specs.Meaning.Word.{Letter, I, H, S, X, W, T′, word}
 use Rattle.exact.specs.Meaning.Normal.{Normal}
-use Rattle.exact.specs.Meaning.Clifford.{Clifford, clifford}
+use Rattle.exact.specs.Meaning.Clifford.{clifford}
 use Rattle.exact.specs.Matrices.Test.{sameTest, same-by}
 use Rattle.exact.specs.Cases.NormalTest.{normalTest, normal-by}
 

@@ -1,6 +1,6 @@
 -- Two by two matrices over any commutative ring: the product's laws and how a scalar moves through it, each one computed test.
 -- Assumes nothing.
-use mathlib.Core.Path.{_≡_, refl, sym, _∙_, ap}
+use mathlib.Core.Path.{_≡_}
 use mathlib.Core.List.{List, [], _∷_}
 use lib.Dec.{T}
 use lib.IntN.{pos}

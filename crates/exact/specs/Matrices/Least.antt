@@ -3,23 +3,22 @@
 use mathlib.Core.Path.{_≡_, refl, sym, _∙_, ap, ap₂}
 use mathlib.Core.Bool.{Bool, true, false, not, _&&_}
 use mathlib.Core.List.{List, [], _∷_}
-use Prim.Native.Nat.{ℕ, zero, suc, _+_, _-_, _%_, _^_, _≤_, _<_}
+use Prim.Native.Nat.{ℕ, zero, suc, _+_, _-_, _%_, _<_}
 use native.Mathlib.Omega.{arith}
 use lib.Dec.{T}
-use lib.IntN.{pos}
 use mir.Facts.{and-yes, yes-and}
-use Rattle.exact.specs.Meaning.Number.{Ω, ints, omegas, addQ, negQ, mulQ, constQ, conjQ, omega^, root2, root2^}
+use Rattle.exact.specs.Meaning.Number.{Ω, ints, omegas, addQ, negQ, mulQ, conjQ, omega^, root2, root2^}
 use Rattle.exact.specs.Meaning.Matrix.{Mat, scaleM, Matrix, Same, Least}
 use Rattle.exact.specs.Meaning.Word.{Letter, word}
 use Rattle.exact.specs.Meaning.Triple.{Triple, entries, Unitary, Reduced}
 use Rattle.exact.specs.Algebra.Ring.{ints-laws}
-use Rattle.exact.specs.Algebra.Solver.{Expr, var, _⊕_, _⊗_, ⊖, exprs, solve, ring₂, ring₃}
+use Rattle.exact.specs.Algebra.Solver.{var, _⊕_, _⊗_, ⊖, solve, ring₃}
 use Rattle.exact.specs.Algebra.Omega.{omegas-laws, conj-mul, root2^-add, root2^-cancel}
 use Rattle.exact.specs.Algebra.OmegaPower.{omega^-mod, omega^-same}
 use Rattle.exact.specs.Algebra.Norm.{norm, unitary-equation, two^}
 use Rattle.exact.specs.Algebra.Over.{divides, over, over-times, times-divides}
 use Rattle.exact.specs.Matrices.Laws.{mat-path, scale-scale, scale-swap}
-use Rattle.exact.specs.Matrices.Same.{lifted, lifted-cancel, matrix-path, Same-refl, Same-sym, Same-trans, Same-of, Same-level}
+use Rattle.exact.specs.Matrices.Same.{lifted, lifted-cancel, Same-refl, Same-sym, Same-trans, Same-of, Same-level}
 use Rattle.exact.specs.Matrices.Triples.{tripleOf, word-triple}
 
 -- ---- of any matrix

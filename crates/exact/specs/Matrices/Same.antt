@@ -1,8 +1,8 @@
 -- "The same matrix" is an equivalence and respects the product on both sides; the product is associative. Assumes nothing.
 use mathlib.Core.Path.{_≡_, refl, sym, _∙_, ap, ap₂}
-use Prim.Native.Nat.{ℕ, zero, _+_}
+use Prim.Native.Nat.{ℕ, _+_}
 use native.Mathlib.Nat.{zero-add, add-assoc}
-use Rattle.exact.specs.Meaning.Number.{Ω, ints, omegas, mulQ, root2^}
+use Rattle.exact.specs.Meaning.Number.{Ω, omegas, root2^}
 use Rattle.exact.specs.Meaning.Matrix.{Mat, mulM, scaleM, Matrix, unit, _·_, Same}
 use Rattle.exact.specs.Algebra.Omega.{omegas-laws, root2^-add, root2^-cancel}
 use Rattle.exact.specs.Matrices.Laws.{mat-path, mulM-assoc, unit-mulM, mulM-unit, scale-swap, scale-both}

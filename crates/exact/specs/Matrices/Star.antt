@@ -1,6 +1,6 @@
 -- The conjugate transposed; matrices that it inverts, up to their root twos, can be struck from the left; and M·s·M*. Assumes nothing.
 use mathlib.Core.Path.{_≡_, refl, sym, _∙_, ap, ap₂}
-use Prim.Native.Nat.{ℕ, zero, suc, _+_}
+use Prim.Native.Nat.{ℕ, _+_}
 use Rattle.exact.specs.Meaning.Number.{Ops, Quad, Ω, ints, omegas, mulQ, conjQ, root2^}
 use Rattle.exact.specs.Meaning.Matrix.{Mat, unitM, mulM, scaleM, Matrix, unit, _·_, Same}
 use Rattle.exact.specs.Algebra.Ring.{ints-laws}

@@ -1,10 +1,10 @@
 -- Equality of closed matrices by computation: one Boolean test says that two matrices are the same. Assumes nothing.
-use mathlib.Core.Path.{_≡_, refl, ap}
-use mathlib.Core.Bool.{Bool, true, false, _&&_}
+use mathlib.Core.Path.{_≡_, ap}
+use mathlib.Core.Bool.{Bool, false, _&&_}
 use lib.Dec.{T, eqb, eqb→eq}
 use lib.IntN.{ℤ, pos, negsuc}
 use mir.Facts.{and-yes}
-use Rattle.exact.specs.Meaning.Number.{Quad, Ω}
+use Rattle.exact.specs.Meaning.Number.{Ω}
 use Rattle.exact.specs.Meaning.Matrix.{Mat, Matrix, Same}
 use Rattle.exact.specs.Algebra.Omega.{quad-path}
 use Rattle.exact.specs.Matrices.Laws.{mat-path}

@@ -2,21 +2,20 @@
 -- Every word's matrix is that of a unitary triple. Assumes nothing.
 use mathlib.Core.Path.{_≡_, refl, sym, _∙_, ap, ap₂}
 use mathlib.Core.List.{List, [], _∷_}
-use Prim.Native.Nat.{ℕ, zero, suc, _+_, _^_}
-use native.Mathlib.Nat.{zero-add}
+use Prim.Native.Nat.{ℕ, suc, _+_}
 use native.Mathlib.Omega.{arith}
-use lib.IntN.{ℤ, pos, negsuc}
-use Rattle.exact.specs.Meaning.Number.{Ops, Quad, Ω, ints, omegas, quads, power, addQ, negQ, mulQ, constQ, conjQ, omega′, omega^, root2^}
-use Rattle.exact.specs.Meaning.Matrix.{Mat, unitM, mulM, scaleM, Matrix, _·_, Same}
+use lib.IntN.{ℤ, pos}
+use Rattle.exact.specs.Meaning.Number.{Quad, Ω, ints, omegas, quads, power, addQ, negQ, mulQ, constQ, conjQ, omega′, omega^, root2^}
+use Rattle.exact.specs.Meaning.Matrix.{Mat, mulM, _·_, Same}
 use Rattle.exact.specs.Meaning.Word.{Letter, I, H, S, X, W, T′, letterM, letter, word}
 use Rattle.exact.specs.Meaning.Triple.{Triple, rows, entries, Unitary}
-use Rattle.exact.specs.Algebra.Ring.{Laws, ints-laws}
-use Rattle.exact.specs.Algebra.Solver.{Expr, var, con, _⊕_, _⊗_, _⊝_, ⊖, exprs, Use, solve, solve-from, ring₁, ring₄}
-use Rattle.exact.specs.Algebra.Omega.{omegas-laws, conj-conj, conj-eval, X₀, X₁, X₂, parts, evalQ, solveQ}
+use Rattle.exact.specs.Algebra.Ring.{ints-laws}
+use Rattle.exact.specs.Algebra.Solver.{Expr, var, con, _⊕_, _⊗_, ⊖, exprs, solve, solve-from, ring₁, ring₄}
+use Rattle.exact.specs.Algebra.Omega.{omegas-laws, conj-conj, conj-eval, X₀, X₁, X₂, parts}
 use Rattle.exact.specs.Algebra.OmegaPower.{omega^-add, omega^-conj}
 use Rattle.exact.specs.Algebra.Norm.{norm, unitary-equation, equation-unitary, two^}
-use Rattle.exact.specs.Matrices.Laws.{mat-path, SameMQ, passed, solveMQ}
-use Rattle.exact.specs.Matrices.Same.{matrix-path, lifted}
+use Rattle.exact.specs.Matrices.Laws.{mat-path, passed, solveMQ}
+use Rattle.exact.specs.Matrices.Same.{matrix-path}
 use Rattle.exact.specs.Matrices.Star.{starM, Isometry, mul-isometry, Same-isometry}
 use Rattle.exact.specs.Matrices.Words.{letter-isometry}
 

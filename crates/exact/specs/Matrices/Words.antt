@@ -1,11 +1,9 @@
 -- A word's matrix respects joining words, and each word can be struck from the left. Assumes nothing.
-use mathlib.Core.Path.{_≡_, refl, sym, _∙_, ap, ap₂}
+use mathlib.Core.Path.{_≡_, refl, sym, _∙_, ap}
 use mathlib.Core.List.{List, [], _∷_, _++_}
-use Rattle.exact.specs.Meaning.Number.{Ops, Quad, Ω, ints, omegas, quads}
-use Rattle.exact.specs.Meaning.Matrix.{Mat, unitM, mulM, Matrix, _·_, Same}
-use Rattle.exact.specs.Meaning.Word.{Letter, I, H, S, X, W, T′, letterM, letter, word}
-use Rattle.exact.specs.Algebra.Solver.{exprs}
-use Rattle.exact.specs.Matrices.Same.{mul-assoc, unit-mul, Same-refl, Same-mul, Same-trans, Same-of}
+use Rattle.exact.specs.Meaning.Matrix.{_·_, Same}
+use Rattle.exact.specs.Meaning.Word.{Letter, I, H, S, X, W, T′, letter, word}
+use Rattle.exact.specs.Matrices.Same.{mul-assoc, unit-mul, Same-mul}
 use Rattle.exact.specs.Matrices.Star.{Isometry, unit-isometry, mul-isometry, strike}
 
 pub word-append : (u v : List Letter) → word (u ++ v) ≡ word u · word v

@@ -1,7 +1,7 @@
 -- Triples, as document 01 has them: (z,w,n) with exponent k, the matrix that it stands for, and when it is unitary and reduced.
 use mathlib.Core.Path.{_≡_}
 use Prim.Native.Nat.{ℕ, _^_}
-use lib.IntN.{ℤ, pos, _+ℤ_}
+use lib.IntN.{pos, _+ℤ_}
 use Rattle.exact.specs.Meaning.Number.{Ops, Quad, Ω, ints, mulQ, negQ, conjQ, omega^}
 use Rattle.exact.specs.Meaning.Matrix.{Mat, Matrix, Least}
 

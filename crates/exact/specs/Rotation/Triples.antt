@@ -2,22 +2,22 @@
 -- The product law follows, and the tie to words: least exponents of the one are T counts of the other. Assumes nothing.
 use mathlib.Core.Path.{_≡_, refl, sym, _∙_, ap, ap₂}
 use mathlib.Core.List.{List, [], _∷_}
-use Prim.Native.Nat.{ℕ, zero, suc, _+_}
+use Prim.Native.Nat.{ℕ, suc, _+_}
 use native.Mathlib.Omega.{arith}
 use lib.Dec.{T}
-use lib.IntN.{ℤ, pos, negsuc, negℤ, _+ℤ_, _-ℤ_}
-use Rattle.exact.specs.Meaning.Number.{Quad, Ω, ints, omegas, addQ, negQ, mulQ, constQ, conjQ, root2, omega^, root2^}
-use Rattle.exact.specs.Meaning.Matrix.{Mat, mulM, scaleM, Matrix, _·_, Same}
+use lib.IntN.{ℤ, pos, negℤ, _+ℤ_, _-ℤ_}
+use Rattle.exact.specs.Meaning.Number.{Ω, ints, omegas, addQ, negQ, mulQ, constQ, conjQ, root2, omega^, root2^}
+use Rattle.exact.specs.Meaning.Matrix.{Mat, mulM, scaleM, Same}
 use Rattle.exact.specs.Meaning.Word.{Letter, word, tees}
 use Rattle.exact.specs.Meaning.Triple.{Triple, entries}
 use Rattle.exact.specs.Algebra.Ring.{ints-laws}
-use Rattle.exact.specs.Algebra.Solver.{Expr, var, con, _⊕_, _⊗_, _⊝_, ⊖, exprs, Use, eval, at, same, solve, solve-from, ring₂}
+use Rattle.exact.specs.Algebra.Solver.{Expr, var, con, _⊕_, _⊗_, _⊝_, ⊖, exprs, eval, at, same, solve, solve-from, ring₂}
 use Rattle.exact.specs.Algebra.Omega.{omegas-laws, conj-mul, conj-conj, conj-eval, root2^-add, X₀, parts, solveQ}
 use Rattle.exact.specs.Algebra.OmegaPower.{omega^-conj}
 use Rattle.exact.specs.Algebra.RootTwo.{Root, timesR, ofRoot, toRoot, ofRoot-real, ofRoot-times, ofRoot-conj}
 use Rattle.exact.specs.Matrices.Laws.{mat-path, scale-scale}
 use Rattle.exact.specs.Matrices.Same.{lifted, Same-of}
-use Rattle.exact.specs.Matrices.Star.{starM, sand}
+use Rattle.exact.specs.Matrices.Star.{sand}
 use Rattle.exact.specs.Matrices.Triples.{mulT, mulT-is, star-entries}
 use Rattle.exact.specs.Rotation.Vectors.{Vect, turn, sigma, coords, V₀, lift, lift-add, lift-cancel, timesV}
 use Rattle.exact.specs.Rotation.Turns.{Turns, turns-mul, turns-same, turns-word}

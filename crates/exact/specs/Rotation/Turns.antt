@@ -1,14 +1,14 @@
 -- What a matrix M over root two to the e does to a vector v: it turns v into y over root two to the f, where M·sigma v·M* is sigma y, the root twos
 -- counted on either side. Products turn one after the other; one matrix turns a vector in one way. So it is for letters and words. Assumes nothing.
-use mathlib.Core.Path.{_≡_, refl, sym, _∙_, ap, ap₂}
-use mathlib.Core.List.{List, [], _∷_, _++_}
-use Prim.Native.Nat.{ℕ, zero, suc, _+_}
-use lib.IntN.{ℤ, pos, negsuc}
+use mathlib.Core.Path.{_≡_, sym, _∙_, ap, ap₂}
+use mathlib.Core.List.{List, [], _∷_}
+use Prim.Native.Nat.{ℕ, _+_}
+use lib.IntN.{ℤ, negsuc}
 use Rattle.exact.specs.Meaning.Number.{Ops, Quad, Ω, ints, omegas, quads, power, mulQ, root2, root2^}
 use Rattle.exact.specs.Meaning.Matrix.{Mat, mulM, scaleM, Matrix, unit, _·_, Same}
 use Rattle.exact.specs.Meaning.Word.{Letter, I, H, S, X, W, T′, letterM, roots, letter, word, tee, tees}
 use Rattle.exact.specs.Algebra.Ring.{ints-laws}
-use Rattle.exact.specs.Algebra.Solver.{Expr, var, con, _⊕_, _⊗_, exprs, solve-from}
+use Rattle.exact.specs.Algebra.Solver.{Expr, var, con, _⊗_, exprs, solve-from}
 use Rattle.exact.specs.Algebra.Omega.{omegas-laws, root2^-add, root2^-cancel}
 use Rattle.exact.specs.Matrices.Laws.{mat-path, unit-mulM, mulM-unit, passed, solveMQ, scale-one, scale-scale, scale-past, scale-twice}
 use Rattle.exact.specs.Matrices.Same.{lifted}

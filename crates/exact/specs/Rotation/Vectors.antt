@@ -1,12 +1,12 @@
 -- Vectors (x,y,z) over ℤ[root two], their matrices sigma v = [z, x-iy; x+iy, -z], and how a letter turns them: T scaled by root two, the others
 -- exactly. Over any ring's operations. Assumes nothing.
-use mathlib.Core.Path.{_≡_, refl, sym, _∙_, ap}
+use mathlib.Core.Path.{_≡_, _∙_, ap}
 use mathlib.Core.List.{List, [], _∷_}
 use Prim.Native.Nat.{ℕ, zero, suc, _+_}
 use native.Mathlib.Omega.{arith}
 use native.Mathlib.Nat.{zero-add, suc-add}
 use lib.IntN.{ℤ, pos, _+ℤ_, _-ℤ_}
-use Rattle.exact.specs.Meaning.Number.{Ops, Quad, Ω, ints, omegas, quads, root2, root2^}
+use Rattle.exact.specs.Meaning.Number.{Ops, Quad, ints, omegas, quads, root2, root2^}
 use Rattle.exact.specs.Meaning.Matrix.{Mat, scaleM}
 use Rattle.exact.specs.Meaning.Word.{Letter, I, H, S, X, W, T′}
 use Rattle.exact.specs.Whole.Linear.{int, sum, difference}

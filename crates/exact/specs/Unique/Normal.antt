@@ -1,20 +1,19 @@
 -- Two normal words with the same matrix, phase included, are the same letters (Giles and Selinger); and no word with a normal word's matrix has fewer
 -- T letters. The first syllable is read off the parities of a turned vector that the tail makes odd; it is struck, and so on. Assumes nothing.
-use mathlib.Core.Path.{_≡_, refl, sym, _∙_, ap, ap₂, subst}
+use mathlib.Core.Path.{_≡_, refl, sym, _∙_, ap, subst}
 use mathlib.Core.Bool.{Bool, true, false}
 use mathlib.Core.List.{List, [], _∷_, _++_}
-use Prim.Native.Nat.{ℕ, zero, suc, _+_, _<_, _≤_}
+use Prim.Native.Nat.{ℕ, zero, suc, _≤_}
 use native.Mathlib.Omega.{arith}
-use lib.IntN.{ℤ, pos}
-use Rattle.exact.specs.Meaning.Number.{ints}
-use Rattle.exact.specs.Meaning.Matrix.{Matrix, _·_, unit, Same}
-use Rattle.exact.specs.Meaning.Word.{Letter, I, H, S, X, W, T′, letter, word, tees}
+use lib.IntN.{ℤ}
+use Rattle.exact.specs.Meaning.Matrix.{_·_, unit, Same}
+use Rattle.exact.specs.Meaning.Word.{Letter, H, S, X, W, T′, letter, word, tees}
 use Rattle.exact.specs.Meaning.Normal.{Syllable, HT, SHT, Front, nothing, onlyH, onlySH, Tail, Shape, times, frontWord, tailWord, orI, after, leading, spell, Fits, Normal}
-use Rattle.exact.specs.Whole.Parity.{xr, xr-comm, xr-false, false-true}
-use Rattle.exact.specs.Matrices.Same.{unit-mul, Same-sym, Same-of, Same-trans}
+use Rattle.exact.specs.Whole.Parity.{xr-comm, xr-false, false-true}
+use Rattle.exact.specs.Matrices.Same.{unit-mul, Same-sym}
 use Rattle.exact.specs.Matrices.Words.{strike-word}
 use Rattle.exact.specs.Rotation.Vectors.{Vect}
-use Rattle.exact.specs.Rotation.Parity.{Par, par, none, sOf, pturnL, pturn, Seen, fewest, same-count, same-parities}
+use Rattle.exact.specs.Rotation.Parity.{Par, par, sOf, pturnL, pturn, Seen, fewest, same-count, same-parities}
 use Rattle.exact.specs.Unique.Tails.{e₁, e₃, ending, tail-tees, tail-unique}
 
 -- ---- what a tail and syllables do to parities

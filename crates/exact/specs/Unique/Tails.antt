@@ -3,13 +3,13 @@
 use mathlib.Core.Path.{_≡_, refl, sym, _∙_, ap, ap₂, subst}
 use mathlib.Core.Bool.{Bool, true, false, cond, _||_}
 use mathlib.Core.List.{List, [], _∷_, _++_}
-use Prim.Native.Nat.{ℕ, zero, suc, _+_, _*_, _/_, _%_, _<_, _≤_}
+use Prim.Native.Nat.{ℕ, zero, suc, _+_, _/_, _%_, _<_, _≤_}
 use native.Mathlib.Omega.{arith}
 use native.Mathlib.Nat.{zero-add, add-assoc}
 use lib.IntN.{ℤ, pos, negsuc}
-use Rattle.exact.specs.Meaning.Number.{Ω, ints, omegas, mulQ, constQ, omega′, omega^, root2^, odd}
-use Rattle.exact.specs.Meaning.Matrix.{Mat, mulM, Matrix, _·_, Same}
-use Rattle.exact.specs.Meaning.Word.{Letter, I, H, S, X, W, T′, letter, word, tee, tees}
+use Rattle.exact.specs.Meaning.Number.{Ω, ints, omegas, mulQ, constQ, omega′, omega^, odd}
+use Rattle.exact.specs.Meaning.Matrix.{mulM, Matrix, _·_, Same}
+use Rattle.exact.specs.Meaning.Word.{Letter, S, X, W, letter, word, tee, tees}
 use Rattle.exact.specs.Meaning.Normal.{Front, nothing, onlyH, onlySH, Tail, times, frontWord, tailWord, Fits}
 use Rattle.exact.specs.Meaning.Clifford.{Clifford, Within, cycle, clifford}
 use Rattle.exact.specs.Algebra.Solver.{var, con, _⊗_, exprs}

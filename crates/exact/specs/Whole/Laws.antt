@@ -1,8 +1,8 @@
 -- The ring laws of the whole numbers that the library lacks: the product distributes over the sum and is associative, and a sign moves out of it.
 -- Each is by induction on the first factor, by successor and predecessor (`ℤ-steps`). Assumes nothing.
-use mathlib.Core.Path.{_≡_, refl, sym, _∙_, ap, ap₂}
-use Prim.Native.Nat.{ℕ, zero, suc}
-use lib.IntN.{ℤ, pos, negsuc, one, sucℤ, predℤ, negℤ, _+ℤ_, _-ℤ_, _*ℤ_, +ℤ-idl, +ℤ-idr, +ℤ-assoc, +ℤ-comm, +ℤ-invl, +ℤ-invr, sucℤ-+ℤ, predℤ-+ℤ, zero-*ℤ, *ℤ-zero, *ℤ-one, sucℤ-*ℤ, predℤ-*ℤ, *ℤ-comm}
+use mathlib.Core.Path.{_≡_, sym, _∙_, ap, ap₂}
+use Prim.Native.Nat.{zero, suc}
+use lib.IntN.{ℤ, pos, negsuc, one, sucℤ, predℤ, negℤ, _+ℤ_, _-ℤ_, _*ℤ_, +ℤ-idl, +ℤ-idr, +ℤ-assoc, +ℤ-comm, +ℤ-invl, +ℤ-invr, sucℤ-+ℤ, predℤ-+ℤ, zero-*ℤ, *ℤ-one, sucℤ-*ℤ, predℤ-*ℤ, *ℤ-comm}
 
 -- what holds at 0 and is kept by successor and predecessor holds at every integer
 pub ℤ-steps {ℓ} : (P : ℤ → Type ℓ) → P (pos zero) → ((k : ℤ) → P k → P (sucℤ k)) → ((k : ℤ) → P k → P (predℤ k)) → (k : ℤ) → P k

@@ -5,11 +5,11 @@
 -- to be used. `int` reads `≡`, `≤ℤ` and `<ℤ` among the hypotheses, and proves such a goal, and `SFits`. `omega` stops at six splits, so
 -- where a goal `SFits` meets that bound, write `fits (omega (arith, ..))`, which splits nothing.
 -- Assumes nothing.
-use mathlib.Core.Path.{_≡_, refl, sym, _∙_, ap}
+use mathlib.Core.Path.{_≡_, refl, ap}
 use mathlib.Core.Bool.{Bool, true, false, not, cond}
 use Prim.Native.Nat.{ℕ, zero, suc, _+_, _-_, _^_, _≤_, _<_, max, pred}
 use native.Mathlib.Omega.{arith}
-use lib.Dec.{T, leb, leb→le, le→leb, ltb, ltb→lt, lt→ltb, nltb→le}
+use lib.Dec.{T, leb→le, le→leb, ltb, ltb→lt, lt→ltb, nltb→le}
 use lib.IntN.{ℤ, pos, negsuc, negℤ, subℕ, _+ℤ_, _-ℤ_}
 use lib.Signed.{_≤ℤ_, _<ℤ_, leZ, ltZ, mag}
 use mir.Syntax.{Width}

@@ -2,20 +2,20 @@
 -- back from the bits that it was stored as, which is how the borrow checker states a need. Where each part is within its range by bounds on the arguments,
 -- one computed test (`allFit`), every need of the expression holds (`need-by`), and its value is the exact one (`result-by`). Assumes nothing.
 use mathlib.Core.Path.{_≡_, refl, sym, _∙_, ap, ap₂, subst}
-use mathlib.Core.Bool.{Bool, true, false, not, _&&_}
-use mathlib.Core.List.{List, [], _∷_}
-use Prim.Native.Nat.{ℕ, zero, suc, _+_, _*_, _%_, _^_, _≤_, _<_}
+use mathlib.Core.Bool.{Bool, _&&_}
+use mathlib.Core.List.{List}
+use Prim.Native.Nat.{ℕ, _+_, _*_, _%_, _^_, _≤_, _<_}
 use native.Mathlib.Nat.{lt-of-le-of-lt, mul-le-mul, le-refl}
 use native.Mathlib.Omega.{arith}
 use lib.Bits.{bitAnd, and-mask}
-use lib.Dec.{T, eqb, ltb, ltb→lt}
+use lib.Dec.{T, ltb, ltb→lt}
 use lib.ListN.{getD}
 use lib.IntN.{ℤ, pos, negsuc, natAbs, _+ℤ_, _-ℤ_, _*ℤ_}
-use lib.Signed.{mag, shrZ}
+use lib.Signed.{mag}
 use mir.Syntax.{Width, w64}
 use mir.Val.{SFits, hbits, toZ, ofZ}
 use mir.Facts.{toZ-ofZ, and-yes}
-use Rattle.exact.specs.Meaning.Number.{ints, odd}
+use Rattle.exact.specs.Meaning.Number.{ints}
 use Rattle.exact.specs.Whole.Size.{sfits-abs, natAbs-add, natAbs-sub, natAbs-mul, natAbs-half, Within, within-at}
 use Rattle.exact.specs.Whole.Parity.{half}
 use Rattle.exact.specs.Algebra.Solver.{at}

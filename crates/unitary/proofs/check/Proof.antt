@@ -1,5 +1,5 @@
 -- `unitary::check` meets its contract: the tests stand in document 01's order.
-use mathlib.Core.Path.{_≡_, subst}
+use mathlib.Core.Path.{subst}
 use borrow.Author.Tests.{not-true, not-false}
 use lib.IntN.{ℤ, natAbs}
 use mir.Facts.{toZ-ofZ}

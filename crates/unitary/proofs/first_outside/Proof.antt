@@ -5,7 +5,7 @@ use native.Mathlib.Omega.{arith}
 use borrow.Author.Tests.{not-true, not-false}
 use lib.ListN.{length, getD}
 use Rattle.exact.specs.Meaning.Word.{In, job2}
-use Rattle.unitary.specs.Letters.{Scanned, below-next}
+use Rattle.unitary.specs.Letters.{below-next}
 use Rattle.unitary.proofs.first_outside.Statement.{statement}
 use Rattle.unitary.proofs.first_outside.Tie as tie
 

@@ -1,6 +1,5 @@
 -- `unitary::from_gates` meets its contract. The invariant: the ending from i on has been read, and it and those after it are shallow; the measure is i.
-use mathlib.Core.Path.{_≡_, refl, sym, _∙_, ap}
-use Prim.Native.Nat.{_≤_, _<_, _-_}
+use Prim.Native.Nat.{_≤_, _-_}
 use native.Mathlib.Omega.{arith}
 use denote.Ref.{now}
 use lib.ListN.{length}

@@ -1,6 +1,4 @@
 -- `unitary::is_unitary` meets its contract: each of the two sums is one comparison.
-use mathlib.Core.Path.{_≡_, refl, sym, _∙_, ap}
-use mir.Facts.{toZ-ofZ}
 use Rattle.unitary.specs.Checks.{refutes, squares-need, squares-agree, squares-differ, crosses-need, crosses-decide}
 use borrow.Author.Needs.{needs}
 use Rattle.unitary.proofs.is_unitary.Statement.{statement}

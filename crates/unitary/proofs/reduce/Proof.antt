@@ -1,5 +1,5 @@
 -- `unitary::reduce` meets its contract: what the check refuses is refused, and the rest is reduced.
-use mathlib.Core.Path.{_≡_, subst}
+use mathlib.Core.Path.{subst}
 use Prim.Native.Nat.{ℕ}
 use lib.IntN.{ℤ}
 use mir.Syntax.{w64}
@@ -9,7 +9,7 @@ use Rattle.ring.specs.declared.ZOmega.{ZOmega}
 use Rattle.unitary.specs.Triples.{triple, given}
 use Rattle.unitary.specs.Outcomes.{Answers}
 use mir.Facts.{toZ-ofZ}
-use Rattle.unitary.specs.Checks.{CheckOutcome, Taken, reduce-refused, check-taken, reduce-accepted, exponent-cast, small-in}
+use Rattle.unitary.specs.Checks.{CheckOutcome, reduce-refused, check-taken, reduce-accepted, exponent-cast, small-in}
 use borrow.Author.Needs.{needs}
 use Rattle.unitary.proofs.reduce.Statement.{statement}
 use Rattle.unitary.proofs.reduce.Tie as tie

@@ -1,5 +1,4 @@
 -- `unitary::within_limit` meets its contract: the two ends are tested one after the other.
-use mathlib.Core.Path.{_≡_, refl, sym, _∙_, ap}
 use mir.Facts.{toZ-ofZ}
 use Rattle.unitary.specs.Checks.{refutes, too-low, high-enough}
 use borrow.Author.Needs.{needs}

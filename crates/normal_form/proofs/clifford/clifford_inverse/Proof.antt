@@ -1,24 +1,18 @@
-use mathlib.Core.Path.{_≡_, refl, sym, ap, _∙_}
-use Rattle.normal_form.specs.Remainder.{reduced-back}
+-- `normal_form::clifford::clifford_inverse` meets its contract. Assumes nothing.
+use mathlib.Core.Path.{_∙_}
+use borrow.Author.Needs.{needs}
 use Rattle.normal_form.specs.Cliffords.{inverse-job}
 use Rattle.normal_form.specs.Job6.{reduced}
-use borrow.Author.Needs.{needs}
+use Rattle.normal_form.specs.Remainder.{reduced-back}
 use Rattle.normal_form.proofs.clifford.clifford_inverse.Statement.{statement}
 use Rattle.normal_form.proofs.clifford.clifford_inverse.Tie as tie
-use Rattle.normal_form.proofs.clifford.clifford_inverse.Reads as reads
-use Rattle.normal_form.proofs.clifford.clifford_inverse.Lts as lts
-use Rattle.normal_form.proofs.clifford.Clifford.inverse.Reads as inverse-reads
-use Rattle.normal_form.proofs.clifford.Clifford.new.Reads as new-reads
 
--- src/clifford.rt:616:5
 new-requires : tie.Need-new-requires
 new-requires c κs = search needs
 
--- src/clifford.rt:616:5
 inverse-requires : tie.Need-inverse-requires
 inverse-requires c κs = c .new .ensures .ranged
 
--- src/clifford.rt:613:1
 returns : tie.Need-returns
 returns c = inverse-job (c .before .new .result) (reduced (c .before .before .args .a) (c .before .before .args .b) (c .before .before .args .c) (c .before .before .args .d)) (c .inverse .result) (c .before .new .ensures .is ∙ reduced-back (c .before .before .args .a) (c .before .before .args .b) (c .before .before .args .c) (c .before .before .args .d) (c .before .before .fits .a) (c .before .before .fits .b) (c .before .before .fits .c) (c .before .before .fits .d)) (c .before .new .ensures .ranged) (c .inverse .ensures)
 

@@ -1,51 +1,37 @@
+-- `normal_form::reading::append_t` meets its contract. Assumes nothing.
+use borrow.Author.Needs.{needs}
 use denote.Ref.{now}
 use Rattle.normal_form.specs.Held.{bytes-few, rest-ranged, tee-I, tee-H, tee-SH}
-use borrow.Author.Needs.{needs}
 use Rattle.normal_form.proofs.reading.append_t.Statement.{statement}
 use Rattle.normal_form.proofs.reading.append_t.Tie as tie
-use Rattle.normal_form.proofs.reading.append_t.Reads as reads
-use Rattle.normal_form.proofs.reading.append_t.Lts as lts
-use Rattle.normal_form.proofs.clifford.Clifford.decompose_tconj.Reads as decompose-tconj-reads
-use Rattle.normal_form.proofs.reading.cancel.Reads as cancel-reads
-use Rattle.normal_form.proofs.reading.push.Reads as push-reads
 
--- src/reading.rt:134:9
 decompose-tconj-requires : tie.Need-decompose-tconj-requires
 decompose-tconj-requires c κs = search needs
 
--- src/reading.rt:138:27
 enum-told : tie.Need-enum-told
 enum-told c = search needs
 
--- src/reading.rt:138:20
 cancel-requires : tie.Need-cancel-requires
 cancel-requires c κs = (c .before .before .before .before .before .before .pre .0, (c .before .before .before .before .before .before .pre .1, rest-ranged (now (c .before .before .before .before .before .before .args .items)) (c .before .before .before .before .before .before .args .r) (c .before .before .before .before .decompose-tconj .result) (now (c .before .before .before .before .before .before .args .items)) (c .before .before .before .before .before .before .args .r) (c .before .before .before .before .decompose-tconj .ensures)))
 
--- src/reading.rt:139:25
 enum-told-2 : tie.Need-enum-told-2
 enum-told-2 c = search needs
 
--- src/reading.rt:139:20
 push-requires : tie.Need-push-requires
 push-requires c κs = (c .before .before .before .before .before .before .pre .1, bytes-few (c .before .before .before .before .before .before .pre .0 .holds) (c .before .before .before .before .before .before .pre .1), c .before .before .before .before .before .before .pre .0 .holds .array .room)
 
--- src/reading.rt:140:26
 enum-told-3 : tie.Need-enum-told-3
 enum-told-3 c = search needs
 
--- src/reading.rt:140:21
 push-requires-2 : tie.Need-push-requires-2
 push-requires-2 c κs = (c .before .before .before .before .before .before .pre .1, bytes-few (c .before .before .before .before .before .before .pre .0 .holds) (c .before .before .before .before .before .before .pre .1), c .before .before .before .before .before .before .pre .0 .holds .array .room)
 
--- src/reading.rt:129:1
 returns : tie.Need-returns
 returns c = tee-I (now (c .before .before .before .before .before .before .before .args .items)) (c .before .before .before .before .before .before .before .args .r) (c .before .before .before .before .before .decompose-tconj .result) (c .cancel .last .0) (c .cancel .result) (c .before .before .before .before .before .decompose-tconj .ensures) (c .before .before .enum-told .given .1) (c .cancel .ensures)
 
--- src/reading.rt:129:1
 returns-2 : tie.Need-returns-2
 returns-2 c = tee-H (now (c .before .before .before .before .before .before .before .args .items)) (c .before .before .before .before .before .before .before .args .r) (c .before .before .before .before .before .decompose-tconj .result) (c .push .last .0) (c .push .result) (c .before .before .before .before .before .decompose-tconj .ensures) (c .before .before .enum-told2 .given .1) (c .before .before .before .before .before .before .before .pre .1) (c .push .ensures)
 
--- src/reading.rt:129:1
 returns-3 : tie.Need-returns-3
 returns-3 c = tee-SH (now (c .before .before .before .before .before .before .before .args .items)) (c .before .before .before .before .before .before .before .args .r) (c .before .before .before .before .before .decompose-tconj .result) (c .push2 .last .0) (c .push2 .result) (c .before .before .before .before .before .decompose-tconj .ensures) (c .before .before .enum-told3 .given .1) (c .before .before .before .before .before .before .before .pre .1) (c .push2 .ensures)
 

@@ -1,14 +1,11 @@
+-- `normal_form::writing::one_if_none` meets its contract. Assumes nothing.
 use borrow.Author.Tests.{ne-eqb}
 use Rattle.normal_form.proofs.writing.one_if_none.Statement.{statement}
 use Rattle.normal_form.proofs.writing.one_if_none.Tie as tie
-use Rattle.normal_form.proofs.writing.one_if_none.Reads as reads
-use Rattle.normal_form.proofs.writing.one_if_none.Lts as lts
 
--- src/writing.rt:57:1
 returns : tie.Need-returns
 returns c = rw (c .if1 .taken)
 
--- src/writing.rt:57:1
 returns-2 : tie.Need-returns-2
 returns-2 c = rw (ne-eqb (c .before .args .n) 0 (c .if1 .left))
 

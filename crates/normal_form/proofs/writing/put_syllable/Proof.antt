@@ -1,83 +1,64 @@
-use Rattle.normal_form.specs.declared.reading.Syllable.{Syllable}
-use lib.ListN.{length}
+-- `normal_form::writing::put_syllable` meets its contract. Assumes nothing.
 use mathlib.Core.List.{[], _∷_}
-use mathlib.Core.Path.{_≡_, ap}
+use mathlib.Core.Path.{ap}
 use native.Mathlib.Omega.{arith}
+use borrow.Author.Needs.{needs}
 use denote.Ref.{now}
+use lib.ListN.{length}
 use Rattle.normal_form.specs.Held.{syllableWord}
 use Rattle.normal_form.specs.Put.{put-none, put-more}
-use borrow.Author.Needs.{needs}
+use Rattle.normal_form.specs.declared.reading.Syllable.{Syllable}
 use Rattle.normal_form.proofs.writing.put_syllable.Statement.{statement}
 use Rattle.normal_form.proofs.writing.put_syllable.Tie as tie
-use Rattle.normal_form.proofs.writing.put_syllable.Reads as reads
-use Rattle.normal_form.proofs.writing.put_syllable.Lts as lts
-use Rattle.normal_form.proofs.writing.put_letter.Reads as put-letter-reads
 
--- src/writing.rt:127:24
 enum-told : tie.Need-enum-told
 enum-told c = search needs
 
--- src/writing.rt:128:35
 enum-told-2 : tie.Need-enum-told-2
 enum-told-2 c = search needs
 
--- src/writing.rt:128:24
 put-letter-requires : tie.Need-put-letter-requires
 put-letter-requires c κs = omega (arith, ap (λ (s : Syllable). length (syllableWord s)) (c .before .enum-told2 .given .1))
 
--- src/writing.rt:130:32
 enum-told-3 : tie.Need-enum-told-3
 enum-told-3 c = search needs
 
--- src/writing.rt:130:17
 put-letter-requires-2 : tie.Need-put-letter-requires-2
 put-letter-requires-2 c κs = omega (arith, ap (λ (s : Syllable). length (syllableWord s)) (c .before .enum-told3 .given .1))
 
--- src/writing.rt:131:13
 put-letter-requires-3 : tie.Need-put-letter-requires-3
 put-letter-requires-3 c κs = omega (arith, ap (λ (s : Syllable). length (syllableWord s)) (c .before .before .before .before .before .enum-told3 .given .1), c .before .before .before .put-letter2 .ensures .next, c .before .before .before .put-letter2 .kept .0)
 
--- src/writing.rt:134:32
 enum-told-4 : tie.Need-enum-told-4
 enum-told-4 c = search needs
 
--- src/writing.rt:134:17
 put-letter-requires-4 : tie.Need-put-letter-requires-4
 put-letter-requires-4 c κs = omega (arith, ap (λ (s : Syllable). length (syllableWord s)) (c .before .enum-told4 .given .1))
 
--- src/writing.rt:135:17
 put-letter-requires-5 : tie.Need-put-letter-requires-5
 put-letter-requires-5 c κs = omega (arith, ap (λ (s : Syllable). length (syllableWord s)) (c .before .before .before .before .before .enum-told4 .given .1), c .before .before .before .put-letter4 .ensures .next, c .before .before .before .put-letter4 .kept .0)
 
--- src/writing.rt:136:13
 put-letter-requires-6 : tie.Need-put-letter-requires-6
 put-letter-requires-6 c κs = omega (arith, ap (λ (s : Syllable). length (syllableWord s)) (c .before .before .before .before .before .before .before .before .before .enum-told4 .given .1), c .before .before .before .put-letter5 .ensures .next, c .before .before .before .put-letter5 .kept .0, c .before .before .before .before .before .before .before .put-letter4 .ensures .next, c .before .before .before .before .before .before .before .put-letter4 .kept .0)
 
--- src/writing.rt:122:1
 returns : tie.Need-returns
 returns c = rw (c .enum-told .given .1) (put-none (now (c .before .before .before .args .buf)) (c .before .before .before .args .at))
 
--- src/writing.rt:122:1
 same-length : tie.Need-same-length
 same-length c = search needs
 
--- src/writing.rt:122:1
 returns-2 : tie.Need-returns-2
 returns-2 c = rw (c .before .before .before .before .enum-told2 .given .1) (c .before .before .put-letter .ensures)
 
--- src/writing.rt:122:1
 same-length-2 : tie.Need-same-length-2
 same-length-2 c = search needs
 
--- src/writing.rt:122:1
 returns-3 : tie.Need-returns-3
 returns-3 c = rw (c .before .before .before .before .before .before .before .before .enum-told3 .given .1) (put-more (now (c .before .before .before .before .before .before .before .before .before .before .before .args .buf)) (c .before .before .before .before .before .before .before .before .before .before .before .args .at) (72 ∷ []) (c .before .before .before .before .before .before .put-letter2 .last .0) (c .before .before .before .before .before .before .put-letter2 .result) (c .before .before .before .before .before .before .put-letter2 .ensures) (omega (arith, ap (λ (s : Syllable). length (syllableWord s)) (c .before .before .before .before .before .before .before .before .enum-told3 .given .1))) (84 ∷ []) (c .before .before .put-letter3 .last .0) (c .before .before .put-letter3 .result) (c .before .before .put-letter3 .ensures))
 
--- src/writing.rt:122:1
 same-length-3 : tie.Need-same-length-3
 same-length-3 c = search needs
 
--- src/writing.rt:122:1
 returns-4 : tie.Need-returns-4
 returns-4 c = let a = c .before .before .before .before .before .before .before .before .before .before .before .before .before .before .before .args in let p = put-more (now (a .buf)) (a .at) (83 ∷ []) (c .before .before .before .before .before .before .before .before .before .before .put-letter4 .last .0) (c .before .before .before .before .before .before .before .before .before .before .put-letter4 .result) (c .before .before .before .before .before .before .before .before .before .before .put-letter4 .ensures) (omega (arith, ap (λ (s : Syllable). length (syllableWord s)) (c .before .before .before .before .before .before .before .before .before .before .before .before .enum-told4 .given .1))) (72 ∷ []) (c .before .before .before .before .before .before .put-letter5 .last .0) (c .before .before .before .before .before .before .put-letter5 .result) (c .before .before .before .before .before .before .put-letter5 .ensures) in rw (c .before .before .before .before .before .before .before .before .before .before .before .before .enum-told4 .given .1) (put-more (now (a .buf)) (a .at) (83 ∷ 72 ∷ []) (c .before .before .before .before .before .before .put-letter5 .last .0) (c .before .before .before .before .before .before .put-letter5 .result) p (omega (arith, ap (λ (s : Syllable). length (syllableWord s)) (c .before .before .before .before .before .before .before .before .before .before .before .before .enum-told4 .given .1))) (84 ∷ []) (c .before .before .put-letter6 .last .0) (c .before .before .put-letter6 .result) (c .before .before .put-letter6 .ensures))
 

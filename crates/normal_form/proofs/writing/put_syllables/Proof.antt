@@ -1,22 +1,16 @@
-use Rattle.normal_form.specs.Answers.{bytes-length, one-room, one-more}
-use Rattle.normal_form.specs.declared.reading.Syllable.{Syllable}
-use mathlib.Core.List.{List}
-use mathlib.Core.Path.{_≡_, sym, _∙_, ap, subst}
+-- `normal_form::writing::put_syllables` meets its contract. Assumes nothing.
+use mathlib.Core.Path.{_≡_, sym, ap, subst}
+use Prim.Native.Nat.{ℕ, _+_, _-_, _≤_}
 use native.Mathlib.Omega.{arith}
 use denote.Ref.{now}
-use Rattle.normal_form.specs.Held.{syllableWord, syllableOf}
-use Rattle.normal_form.specs.Put.{put-none, put-more, put-length}
-use Rattle.normal_form.specs.Answers.{codesWord}
-use Rattle.exact.specs.Meaning.Word.{bytes}
 use lib.ListN.{length, take}
-use Prim.Native.Nat.{ℕ, _+_, _-_, _≤_}
-use Rattle.normal_form.specs.Put.{Put}
+use Rattle.exact.specs.Meaning.Word.{bytes}
+use Rattle.normal_form.specs.Answers.{bytes-length, one-room, one-more, codesWord}
+use Rattle.normal_form.specs.Held.{syllableWord}
+use Rattle.normal_form.specs.Put.{put-none, put-length, Put}
+use Rattle.normal_form.specs.declared.reading.Syllable.{Syllable}
 use Rattle.normal_form.proofs.writing.put_syllables.Statement.{statement}
 use Rattle.normal_form.proofs.writing.put_syllables.Tie as tie
-use Rattle.normal_form.proofs.writing.put_syllables.Reads as reads
-use Rattle.normal_form.proofs.writing.put_syllables.Lts as lts
-use Rattle.normal_form.proofs.reading.Syllable.of.Reads as of-reads
-use Rattle.normal_form.proofs.writing.put_syllable.Reads as put-syllable-reads
 
 the-end : (j n : ℕ) → j ≤ n → n ≤ j → j ≡ n
 the-end j n h k = omega arith
@@ -27,39 +21,30 @@ Inv-loop buf₀ items count at₀ k₀ buf at k = (k ≤ count) × Put buf₀ 0 
 abbrev μ-loop : tie.MeasureT-loop
 μ-loop buf₀ items count at₀ k₀ buf at k = count - k
 
--- src/writing.rt:147:5
 loop-holds : tie.Need-loop-holds Inv-loop μ-loop
 loop-holds c = (omega arith, put-none (now (c .before .args .buf)) 0)
 
--- src/writing.rt:148:30
 element-copy-out-of : tie.Need-element-copy-out-of Inv-loop μ-loop
 element-copy-out-of c = omega arith
 
--- src/writing.rt:148:13
 of-requires : tie.Need-of-requires Inv-loop μ-loop
 of-requires c κs = tt
 
--- src/writing.rt:149:9
 put-syllable-requires : tie.Need-put-syllable-requires Inv-loop μ-loop
 put-syllable-requires c κs = omega (arith, one-room (now (c .before .before .before .before .before .before .args .items)) (now (c .before .before .before .before .before .before .args .buf)) (c .before .before .before .before .loop .k) (c .before .before .before .before .before .before .args .count) (c .before .before .before .before .loop .buf) (c .before .before .before .before .loop .at) (c .before .before .before .loop-test .taken) (c .before .before .before .before .before .before .pre .0) (c .before .before .before .before .before .before .pre .1) (c .before .before .before .before .before .before .pre .2) (c .before .before .before .before .loop .inv .1), ap (λ (s : Syllable). length (syllableWord s)) (c .before .of .ensures))
 
--- src/writing.rt:150:9
 add-k : tie.Need-add-k Inv-loop μ-loop
 add-k c = omega arith
 
--- src/writing.rt:147:5
 loop-less : tie.Need-loop-less Inv-loop μ-loop
 loop-less c = omega arith
 
--- src/writing.rt:147:5
 loop-again : tie.Need-loop-again Inv-loop μ-loop
 loop-again c = (omega arith, one-more (now (c .before .before .before .before .before .before .before .before .before .args .items)) (now (c .before .before .before .before .before .before .before .before .before .args .buf)) (c .before .before .before .before .before .before .before .loop .k) (c .before .before .before .before .before .before .before .before .before .args .count) (c .before .before .before .before .before .before .before .loop .buf) (c .before .before .before .before .before .before .before .loop .at) (c .before .before .before .before .before .before .loop-test .taken) (c .before .before .before .before .before .before .before .before .before .pre .0) (c .before .before .before .before .before .before .before .before .before .pre .1) (c .before .before .before .before .before .before .before .before .before .pre .2) (c .before .before .before .before .before .before .before .loop .inv .1) (c .before .before .before .before .of .result) (c .before .before .put-syllable .last .0) (c .before .before .put-syllable .result) (c .before .before .before .before .of .ensures) (c .before .before .put-syllable .ensures))
 
--- src/writing.rt:141:1
 same-length : tie.Need-same-length Inv-loop μ-loop
 same-length c = let l = c .before .loop in let a = c .before .before .before .args in put-length (now (a .buf)) 0 (bytes (codesWord (take (l .k) (now (a .items))))) (l .buf) (l .at) (l .inv .1) (subst (λ (k : ℕ). 0 + length (bytes (codesWord (take k (now (a .items))))) ≤ length (now (a .buf))) (sym (the-end (l .k) (a .count) (l .inv .0) (c .loop-test .left))) (omega (arith, bytes-length (codesWord (take (a .count) (now (a .items)))), c .before .before .before .pre .2)))
 
--- src/writing.rt:141:1
 returns : tie.Need-returns Inv-loop μ-loop
 returns c = let l = c .before .loop in let a = c .before .before .before .args in subst (λ (k : ℕ). Put (now (a .buf)) 0 (bytes (codesWord (take k (now (a .items))))) (l .buf) (l .at)) (the-end (l .k) (a .count) (l .inv .0) (c .loop-test .left)) (l .inv .1)
 

@@ -1,16 +1,13 @@
+-- `normal_form::writing::put_times` meets its contract. Assumes nothing.
 use mathlib.Core.Path.{_≡_, subst}
-use lib.ListN.{length-replicate}
+use Prim.Native.Nat.{ℕ, _+_, _-_, _≤_}
 use native.Mathlib.Nat.{add-zero}
 use native.Mathlib.Omega.{arith}
 use denote.Ref.{now}
-use Rattle.normal_form.specs.Put.{put-none, put-length, put-again}
-use lib.ListN.{length, replicate}
-use Prim.Native.Nat.{ℕ, _+_, _-_, _≤_}
-use Rattle.normal_form.specs.Put.{Put}
+use lib.ListN.{length-replicate, length, replicate}
+use Rattle.normal_form.specs.Put.{put-none, put-length, put-again, Put}
 use Rattle.normal_form.proofs.writing.put_times.Statement.{statement}
 use Rattle.normal_form.proofs.writing.put_times.Tie as tie
-use Rattle.normal_form.proofs.writing.put_times.Reads as reads
-use Rattle.normal_form.proofs.writing.put_times.Lts as lts
 
 the-end : (j n : ℕ) → j ≤ n → n ≤ j → j ≡ n
 the-end j n h k = omega arith
@@ -21,39 +18,30 @@ Inv-loop buf₀ at letter n j₀ buf j = (j ≤ n) × (at + n ≤ length buf₀)
 abbrev μ-loop : tie.MeasureT-loop
 μ-loop buf₀ at letter n j₀ buf j = n - j
 
--- src/writing.rt:115:5
 loop-holds : tie.Need-loop-holds Inv-loop μ-loop
 loop-holds c = (omega arith, c .pre, rw (add-zero (c .args .at)) (put-none (now (c .args .buf)) (c .args .at)))
 
--- src/writing.rt:116:13
 add-buf : tie.Need-add-buf Inv-loop μ-loop
 add-buf c = omega arith
 
--- src/writing.rt:116:9
 slice-write-buf : tie.Need-slice-write-buf Inv-loop μ-loop
 slice-write-buf c = let l = c .before .loop in let a = c .before .before .args in omega (arith, put-length (now (a .buf)) (a .at) (replicate (l .j) (a .letter)) (l .buf) (a .at + l .j) (l .inv .2) (omega (arith, length-replicate (l .j) (a .letter))))
 
--- src/writing.rt:117:9
 add-j : tie.Need-add-j Inv-loop μ-loop
 add-j c = omega arith
 
--- src/writing.rt:115:5
 loop-less : tie.Need-loop-less Inv-loop μ-loop
 loop-less c = omega arith
 
--- src/writing.rt:115:5
 loop-again : tie.Need-loop-again Inv-loop μ-loop
 loop-again c = let l = c .before .loop in let a = c .before .before .args in (omega arith, l .inv .1, put-again (now (a .buf)) (a .at) (a .letter) (l .j) (l .buf) (l .inv .2) (omega arith))
 
--- src/writing.rt:119:5
 add-result : tie.Need-add-result Inv-loop μ-loop
 add-result c = omega arith
 
--- src/writing.rt:110:1
 same-length : tie.Need-same-length Inv-loop μ-loop
 same-length c = let l = c .before .loop in let a = c .before .before .args in put-length (now (a .buf)) (a .at) (replicate (l .j) (a .letter)) (l .buf) (a .at + l .j) (l .inv .2) (omega (arith, length-replicate (l .j) (a .letter)))
 
--- src/writing.rt:110:1
 returns : tie.Need-returns Inv-loop μ-loop
 returns c = let l = c .before .loop in let a = c .before .before .args in subst (λ (k : ℕ). Put (now (a .buf)) (a .at) (replicate k (a .letter)) (l .buf) (a .at + k)) (the-end (l .j) (a .n) (l .inv .0) (c .loop-test .left)) (l .inv .2)
 

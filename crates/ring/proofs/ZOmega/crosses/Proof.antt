@@ -1,10 +1,6 @@
 -- `ring::ZOmega::crosses` meets its contract: each coefficient by what its size allows.
-use mathlib.Core.Path.{sym, _∙_}
 use Prim.Native.Nat.{_^_}
-use lib.IntN.{pos}
-use Rattle.exact.specs.Algebra.Omega.{quad-path}
-use Rattle.exact.specs.Whole.Machine.{Code, arg, lit, halved, _∔_, _∸_, _∗_}
-use Rattle.ring.specs.Number.{quad, turned}
+use Rattle.exact.specs.Whole.Machine.{arg, _∔_, _∸_, _∗_}
 use Rattle.ring.specs.Code.{need₁, gives₁}
 use Rattle.ring.proofs.ZOmega.crosses.Statement.{statement}
 use Rattle.ring.proofs.ZOmega.crosses.Tie as tie

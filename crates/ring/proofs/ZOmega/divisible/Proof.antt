@@ -6,8 +6,7 @@ use Prim.Native.Nat.{_^_}
 use lib.IntN.{_+ℤ_}
 use Rattle.exact.specs.Whole.Parity.{false-true}
 use Rattle.exact.specs.Meaning.Number.{odd}
-use Rattle.exact.specs.Whole.Machine.{Code, arg, _∔_}
-use Rattle.ring.specs.Number.{quad}
+use Rattle.exact.specs.Whole.Machine.{arg, _∔_}
 use Rattle.ring.specs.Code.{need₁, gives₁}
 use Rattle.ring.proofs.ZOmega.divisible.Statement.{statement}
 use Rattle.ring.proofs.ZOmega.divisible.Tie as tie

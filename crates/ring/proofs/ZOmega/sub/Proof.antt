@@ -1,8 +1,7 @@
 -- `ring::ZOmega::sub` meets its contract: each coefficient by what its size allows.
 use Prim.Native.Nat.{_^_}
-use lib.Dec.{T}
 use Rattle.exact.specs.Algebra.Omega.{quad-path}
-use Rattle.exact.specs.Whole.Machine.{Code, arg, _∔_, _∸_}
+use Rattle.exact.specs.Whole.Machine.{arg, _∸_}
 use Rattle.ring.specs.Code.{need₂, gives₂}
 use Rattle.ring.proofs.ZOmega.sub.Statement.{statement}
 use Rattle.ring.proofs.ZOmega.sub.Tie as tie

@@ -1,5 +1,5 @@
 -- `unitary::DOmegaUnitary::divisible` meets its contract: both are tested, z first.
-use mathlib.Core.Path.{_≡_, refl, sym, _∙_, ap, ap₂}
+use mathlib.Core.Path.{_≡_, refl, sym, _∙_, ap₂}
 use mathlib.Core.Bool.{Bool, true, false, _&&_}
 use Rattle.exact.specs.Whole.Parity.{false-true}
 use borrow.Author.Needs.{needs}

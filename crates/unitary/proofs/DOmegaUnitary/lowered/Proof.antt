@@ -1,5 +1,4 @@
 -- `unitary::DOmegaUnitary::lowered` meets its contract: z and w are divided, and k falls by one.
-use mathlib.Core.Path.{_≡_, ap}
 use Prim.Native.Nat.{_-_}
 use native.Mathlib.Omega.{arith}
 use borrow.Author.Needs.{needs}

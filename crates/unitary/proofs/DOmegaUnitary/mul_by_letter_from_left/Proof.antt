@@ -1,7 +1,7 @@
 -- `unitary::DOmegaUnitary::mul_by_letter_from_left` meets its contract, letter by letter.
-use mathlib.Core.Path.{_≡_, ap}
+use mathlib.Core.Path.{ap}
 use native.Mathlib.Omega.{arith}
-use Rattle.exact.specs.Meaning.Word.{I, H, S, X, W, T′}
+use Rattle.exact.specs.Meaning.Word.{S, X, W, T′}
 use Rattle.exact.specs.Cases.Letters.{letterOf}
 use Rattle.unitary.specs.Acts.{good-z, good-w, h-small, of-byte, other-byte, acted-H, acted-plain, acted-I}
 use Rattle.unitary.proofs.DOmegaUnitary.mul_by_letter_from_left.Statement.{statement}

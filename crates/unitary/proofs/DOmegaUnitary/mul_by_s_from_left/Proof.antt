@@ -1,7 +1,6 @@
 -- `unitary::DOmegaUnitary::mul_by_s_from_left` meets its contract: w goes by omega twice.
-use mathlib.Core.Path.{_≡_, sym, _∙_, ap}
-use Prim.Native.Nat.{_+_, _%_, _^_}
-use Rattle.exact.specs.Meaning.Number.{Sized}
+use mathlib.Core.Path.{_∙_}
+use Prim.Native.Nat.{_+_, _%_}
 use Rattle.ring.specs.Number.{quad}
 use Rattle.unitary.specs.Acts.{small-turned, twice-turned}
 use borrow.Author.Needs.{needs}

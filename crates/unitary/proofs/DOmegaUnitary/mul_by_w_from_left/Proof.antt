@@ -1,8 +1,5 @@
 -- `unitary::DOmegaUnitary::mul_by_w_from_left` meets its contract: each part is what the letter makes of it.
-use mathlib.Core.Path.{_≡_}
 use Prim.Native.Nat.{_+_, _%_}
-use native.Mathlib.Numerals.{add-one}
-use Rattle.ring.specs.Number.{quad}
 use borrow.Author.Needs.{needs}
 use Rattle.unitary.proofs.DOmegaUnitary.mul_by_w_from_left.Statement.{statement}
 use Rattle.unitary.proofs.DOmegaUnitary.mul_by_w_from_left.Tie as tie

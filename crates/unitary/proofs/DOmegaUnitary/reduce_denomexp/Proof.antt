@@ -1,7 +1,6 @@
 -- `unitary::DOmegaUnitary::reduce_denomexp` meets its contract. The loop keeps the matrix and the sizes; the measure is k.
-use mathlib.Core.Path.{_≡_, refl, sym, _∙_, ap}
+use mathlib.Core.Path.{refl, sym, _∙_}
 use Rattle.exact.specs.Matrices.Same.{Same-refl}
-use Rattle.exact.specs.Meaning.Triple.{entries}
 use Rattle.unitary.specs.Triples.{triple}
 use Rattle.unitary.specs.Acts.{Lowering, lower-more, lower-less, lower-done, none-left, not-divisible}
 use Rattle.unitary.proofs.DOmegaUnitary.reduce_denomexp.Statement.{statement}

@@ -1,37 +1,27 @@
-use Rattle.normal_form.specs.Cliffords.{tconj-by}
+-- `normal_form::clifford::Clifford::decompose_tconj` meets its contract. Assumes nothing.
 use borrow.Author.Needs.{needs}
+use Rattle.normal_form.specs.Cliffords.{tconj-by}
 use Rattle.normal_form.proofs.clifford.Clifford.decompose_tconj.Statement.{statement}
 use Rattle.normal_form.proofs.clifford.Clifford.decompose_tconj.Tie as tie
-use Rattle.normal_form.proofs.clifford.Clifford.decompose_tconj.Reads as reads
-use Rattle.normal_form.proofs.clifford.Clifford.decompose_tconj.Lts as lts
-use Rattle.normal_form.proofs.clifford.ranged.Reads as ranged-reads
-use Rattle.normal_form.proofs.clifford.tconj_row.Reads as tconj-row-reads
 
--- src/clifford.rt:586:29
 mul-tconj-row : tie.Need-mul-tconj-row
 mul-tconj-row c = search needs
 
--- src/clifford.rt:586:29
 add-tconj-row : tie.Need-add-tconj-row
 add-tconj-row c = search needs
 
--- src/clifford.rt:586:13
 tconj-row-requires : tie.Need-tconj-row-requires
 tconj-row-requires c κs = search needs
 
--- src/clifford.rt:588:38
 add-ranged : tie.Need-add-ranged
 add-ranged c = search needs
 
--- src/clifford.rt:588:54
 add-ranged-2 : tie.Need-add-ranged-2
 add-ranged-2 c = search needs
 
--- src/clifford.rt:588:13
 ranged-requires : tie.Need-ranged-requires
 ranged-requires c κs = search needs
 
--- src/clifford.rt:582:5
 returns : tie.Need-returns
 returns c = tconj-by (c .before .before .before .before .before .before .before .before .args .self) (c .ranged .result) (c .before .before .before .before .before .tconj-row .result) (c .before .before .before .before .before .tconj-row .ensures) (c .ranged .ensures)
 

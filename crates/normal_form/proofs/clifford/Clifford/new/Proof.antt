@@ -1,28 +1,21 @@
-use Rattle.normal_form.specs.Remainder.{reduced-by}
+-- `normal_form::clifford::Clifford::new` meets its contract. Assumes nothing.
 use borrow.Author.Needs.{needs}
+use Rattle.normal_form.specs.Remainder.{reduced-by}
 use Rattle.normal_form.proofs.clifford.Clifford.new.Statement.{statement}
 use Rattle.normal_form.proofs.clifford.Clifford.new.Tie as tie
-use Rattle.normal_form.proofs.clifford.Clifford.new.Reads as reads
-use Rattle.normal_form.proofs.clifford.Clifford.new.Lts as lts
-use Rattle.normal_form.proofs.clifford.rem_euclid.Reads as rem-euclid-reads
 
--- src/clifford.rt:525:16
 rem-euclid-requires : tie.Need-rem-euclid-requires
 rem-euclid-requires c κs = search needs
 
--- src/clifford.rt:526:16
 rem-euclid-requires-2 : tie.Need-rem-euclid-requires-2
 rem-euclid-requires-2 c κs = search needs
 
--- src/clifford.rt:527:16
 rem-euclid-requires-3 : tie.Need-rem-euclid-requires-3
 rem-euclid-requires-3 c κs = search needs
 
--- src/clifford.rt:528:16
 rem-euclid-requires-4 : tie.Need-rem-euclid-requires-4
 rem-euclid-requires-4 c κs = search needs
 
--- src/clifford.rt:521:5
 returns : tie.Need-returns
 returns c = reduced-by (c .before .before .before .before .args .a) (c .before .before .before .before .args .b) (c .before .before .before .before .args .c) (c .before .before .before .before .args .d) (c .before .before .before .before .fits .a) (c .before .before .before .before .fits .b) (c .before .before .before .before .fits .c) (c .before .before .before .before .fits .d) (c .before .before .before .rem-euclid .result) (c .before .before .rem-euclid2 .result) (c .before .rem-euclid3 .result) (c .rem-euclid4 .result) (c .before .before .before .rem-euclid .ensures) (c .before .before .rem-euclid2 .ensures) (c .before .rem-euclid3 .ensures) (c .rem-euclid4 .ensures)
 

@@ -1,38 +1,29 @@
+-- `normal_form::reading::Syllable::made` meets its contract. Assumes nothing.
 use borrow.Author.Needs.{needs}
 use Rattle.normal_form.proofs.reading.Syllable.made.Statement.{statement}
 use Rattle.normal_form.proofs.reading.Syllable.made.Tie as tie
-use Rattle.normal_form.proofs.reading.Syllable.made.Reads as reads
-use Rattle.normal_form.proofs.reading.Syllable.made.Lts as lts
 
--- src/reading.rt:80:28
 enum-told : tie.Need-enum-told
 enum-told c = search needs
 
--- src/reading.rt:81:28
 enum-told-2 : tie.Need-enum-told-2
 enum-told-2 c = search needs
 
--- src/reading.rt:82:29
 enum-told-3 : tie.Need-enum-told-3
 enum-told-3 c = search needs
 
--- src/reading.rt:83:30
 enum-told-4 : tie.Need-enum-told-4
 enum-told-4 c = search needs
 
--- src/reading.rt:76:5
 returns : tie.Need-returns
 returns c = rw (c .enum-told .given .1)
 
--- src/reading.rt:76:5
 returns-2 : tie.Need-returns-2
 returns-2 c = rw (c .enum-told2 .given .1)
 
--- src/reading.rt:76:5
 returns-3 : tie.Need-returns-3
 returns-3 c = rw (c .enum-told3 .given .1)
 
--- src/reading.rt:76:5
 returns-4 : tie.Need-returns-4
 returns-4 c = rw (c .enum-told4 .given .1)
 

@@ -1,22 +1,17 @@
+-- `normal_form::reading::Syllable::of` meets its contract. Assumes nothing.
 use Rattle.normal_form.specs.Held.{syllable-none}
 use Rattle.normal_form.proofs.reading.Syllable.of.Statement.{statement}
 use Rattle.normal_form.proofs.reading.Syllable.of.Tie as tie
-use Rattle.normal_form.proofs.reading.Syllable.of.Reads as reads
-use Rattle.normal_form.proofs.reading.Syllable.of.Lts as lts
 
--- src/reading.rt:53:13
 returns : tie.Need-returns
 returns c = rw (c .if1 .taken)
 
--- src/reading.rt:56:13
 returns-2 : tie.Need-returns-2
 returns-2 c = rw (c .if2 .taken)
 
--- src/reading.rt:59:13
 returns-3 : tie.Need-returns-3
 returns-3 c = rw (c .if3 .taken)
 
--- src/reading.rt:49:5
 returns-4 : tie.Need-returns-4
 returns-4 c = syllable-none (c .before .before .before .args .code) (c .before .before .if1 .left) (c .before .if2 .left) (c .if3 .left)
 

@@ -1,0 +1,315 @@
+// Cases of jobs 3, 5 and 6, on either side of each limit: a line each, compared with stdout.
+use normal_form::Written;
+use normal_form::clifford;
+use normal_form::clifford::Axis;
+use normal_form::clifford::Clifford;
+use shown::number;
+use shown::text;
+
+fn handed(label: &[u8], r: Written) {
+    text(label);
+    text(b": refusal=");
+    number(r.refusal as u64);
+    text(b" place=");
+    number(r.place as u64);
+    text(b" bytes=");
+    number(r.bytes as u64);
+    text(b" t=");
+    number(r.tees as u64);
+}
+
+// The whole buffer is shown, so that a byte that should not have been written is seen.
+fn job3_in(word: &[u8], buf: &mut [u8], room: usize) {
+    if room <= buf.len() {
+        let r = normal_form::normalise(word, &mut buf[0..room]);
+        handed(word, r);
+        text(b" ");
+        text(buf);
+        text(b"\n");
+    }
+}
+
+fn job5_in(word: &[u8], buf: &mut [u8], room: usize) {
+    if room <= buf.len() {
+        let r = normal_form::phase_free(word, &mut buf[0..room]);
+        handed(word, r);
+        text(b" ");
+        text(buf);
+        text(b"\n");
+    }
+}
+
+fn job3(word: &[u8], room: usize) {
+    let mut buf = [b'.'; 16];
+    job3_in(word, &mut buf, room);
+}
+
+fn job5(word: &[u8], room: usize) {
+    let mut buf = [b'.'; 16];
+    job5_in(word, &mut buf, room);
+}
+
+fn document() {
+    job3(b"", 16);
+    job3(b"T", 16);
+    job3(b"TT", 16);
+    job3(b"TTTT", 16);
+    job3(b"HH", 16);
+    job3(b"HTT", 16);
+    job3(b"SHTT", 16);
+    job3(b"HSH", 16);
+    job3(b"XT", 16);
+    job3(b"WT", 16);
+    job3(b"HTHT", 16);
+}
+
+fn shorter() {
+    job5(b"", 16);
+    job5(b"T", 16);
+    job5(b"TW", 16);
+    job5(b"W", 16);
+    job5(b"W", 0);
+    job5(b"HSH", 16);
+    job5(b"XT", 3);
+    job5(b"XT", 2);
+    job5(b"WWWWWWWW", 1);
+    job5(b"WWWWWWWW", 0);
+    job5(b"I", 16);
+}
+
+fn places() {
+    job3(b"I", 16);
+    job3(b"hHT", 16);
+    job3(b"HTI", 16);
+    job3(b"HTxyz", 0);
+    job3(b"HT?IHT", 16);
+}
+
+fn rooms() {
+    job3(b"T", 2);
+    job3(b"T", 1);
+    job3(b"XT", 11);
+    job3(b"XT", 10);
+    job3(b"XT", 9);
+    job3(b"XT", 0);
+    job3(b"", 0);
+    job3(b"", 1);
+}
+
+// A byte that is a word by itself.
+fn alone(b: u8) {
+    let word = [b];
+    let mut buf = [b'.'; 16];
+    let r = normal_form::normalise(&word, &mut buf);
+    if r.refusal == 0 {
+        text(b" ");
+        number(b as u64);
+    }
+}
+
+fn all_bytes() {
+    let mut b: u8 = 0;
+    while b < 255 {
+        alone(b);
+        b += 1;
+    }
+    alone(b);
+}
+
+fn alphabet() {
+    text(b"taken alone:");
+    all_bytes();
+    text(b"\n");
+}
+
+fn ends(buf: &[u8]) {
+    if buf.len() == 4100 {
+        text(&buf[0..4]);
+        text(b"..");
+        text(&buf[4090..4100]);
+    }
+}
+
+fn long_in(label: &[u8], word: &[u8], buf: &mut [u8]) {
+    let r = normal_form::normalise(word, buf);
+    handed(label, r);
+    text(b" ");
+    ends(buf);
+    text(b"\n");
+}
+
+fn long_word(label: &[u8], word: &[u8]) {
+    let mut buf = [b'.'; 4100];
+    long_in(label, word, &mut buf);
+}
+
+fn by_turns(i: usize) -> u8 {
+    if i % 2 == 0 { b'T' } else { b'H' }
+}
+
+// T and then HT over and over.
+fn fill_syllables(word: &mut [u8; 4097]) {
+    let mut i: usize = 0;
+    while i < 4097 {
+        word[i] = by_turns(i);
+        i += 1;
+    }
+}
+
+fn up_and_down(i: usize) -> u8 {
+    if i < 818 {
+        if i % 2 == 0 { b'H' } else { b'T' }
+    } else {
+        if (i - 818) % 8 == 7 { b'H' } else { b'T' }
+    }
+}
+
+// HT 409 times, and then its inverse.
+fn fill_up_and_down(word: &mut [u8; 4090]) {
+    let mut i: usize = 0;
+    while i < 4090 {
+        word[i] = up_and_down(i);
+        i += 1;
+    }
+}
+
+fn syllables(word: &[u8]) {
+    if word.len() == 4097 {
+        long_word(b"2048 syllables", &word[0..4095]);
+        long_word(b"2048 syllables and H", &word[0..4096]);
+        long_word(b"4097 letters", word);
+    }
+}
+
+fn syllables_of(word: &[u8; 4097]) {
+    syllables(word);
+}
+
+fn most_syllables() {
+    let mut word = [b'H'; 4097];
+    fill_syllables(&mut word);
+    syllables_of(&word);
+}
+
+fn returned(word: &[u8]) {
+    if word.len() == 4090 {
+        long_word(b"up", &word[0..818]);
+        long_word(b"up and down", word);
+    }
+}
+
+fn returned_of(word: &[u8; 4090]) {
+    returned(word);
+}
+
+fn up_and_back() {
+    let mut word = [b'H'; 4090];
+    fill_up_and_down(&mut word);
+    returned_of(&word);
+}
+
+fn only_tees() {
+    let word = [b'T'; 4096];
+    long_word(b"4096 T", &word);
+}
+
+fn long_words() {
+    most_syllables();
+    up_and_back();
+    only_tees();
+}
+
+fn clifford_of(q: Clifford) {
+    number(q.a as u64);
+    text(b",");
+    number(q.b as u64);
+    text(b",");
+    number(q.c as u64);
+    text(b",");
+    number(q.d as u64);
+    text(b"\n");
+}
+
+fn axis_of(axis: Axis) {
+    match axis {
+        Axis::I => text(b"I "),
+        Axis::H => text(b"H "),
+        Axis::SH => text(b"SH "),
+    }
+}
+
+fn job6() {
+    text(b"H S ");
+    clifford_of(clifford::clifford_product(1, 0, 1, 5, 0, 0, 1, 0));
+    text(b"S H ");
+    clifford_of(clifford::clifford_product(0, 0, 1, 0, 1, 0, 1, 5));
+    text(b"inverse of 1,1,0,0 ");
+    clifford_of(clifford::clifford_inverse(1, 1, 0, 0));
+    text(b"and times it ");
+    clifford_of(clifford::clifford_product(2, 1, 2, 2, 1, 1, 0, 0));
+    text(b"the least numbers, twice inverted ");
+    let q = clifford::clifford_inverse(
+        -2147483647 - 1,
+        -2147483647 - 1,
+        -2147483647 - 1,
+        -2147483647 - 1,
+    );
+    clifford_of(clifford::clifford_inverse(q.a as i32, q.b as i32, q.c as i32, q.d as i32));
+    text(b"-1,-1,-1,-1 times I ");
+    clifford_of(clifford::clifford_product(-1, -1, -1, -1, 0, 0, 0, 0));
+    text(b"the greatest, split ");
+    let s = clifford::clifford_split(2147483647, 2147483647, 2147483647, 2147483647);
+    let axis = s.axis;
+    let rest = s.rest;
+    axis_of(axis);
+    clifford_of(rest);
+}
+
+// Whether the inverse times the Clifford is not the unit.
+fn wrong_inverse(a: i32, b: i32, c: i32, d: i32) -> bool {
+    let q = clifford::clifford_inverse(a, b, c, d);
+    let p = clifford::clifford_product(q.a as i32, q.b as i32, q.c as i32, q.d as i32, a, b, c, d);
+    if p.a != 0 {
+        return true;
+    }
+    if p.b != 0 {
+        return true;
+    }
+    if p.c != 0 {
+        return true;
+    }
+    p.d != 0
+}
+
+// The quadruple at a place among all 192.
+fn one_inverse(n: u8) {
+    let a = n / 64;
+    let b = n / 32 % 2;
+    let c = n / 8 % 4;
+    let d = n % 8;
+    if wrong_inverse(a as i32, b as i32, c as i32, d as i32) {
+        text(b"wrong inverse ");
+        number(n as u64);
+        text(b"\n");
+    }
+}
+
+fn inverses() {
+    let mut n: u8 = 0;
+    while n < 192 {
+        one_inverse(n);
+        n += 1;
+    }
+}
+
+fn main() {
+    document();
+    shorter();
+    places();
+    rooms();
+    alphabet();
+    long_words();
+    job6();
+    inverses();
+    text(b"all 192 inverses tried\n");
+}
