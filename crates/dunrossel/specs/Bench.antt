@@ -1,10 +1,10 @@
 -- What the bench program answers, for every input: refusal 8 where the bytes are no right record, else what job 4 says of its numbers; and that two
 -- allowed answers are equal. Refusal 7 can't arise: no constructor has it. Assumes nothing.
-use mathlib.Core.Path.{_≡_, refl, sym, _∙_, ap, ap₂, subst}
+use mathlib.Core.Path.{_≡_, refl, sym, _∙_, ap, subst, subst⁻¹}
 use mathlib.Core.List.{List, [], _∷_, _++_}
 use Prim.Native.Nat.{ℕ, zero, suc, _≤_, _<_}
 use native.Mathlib.Omega.{arith}
-use lib.ListN.{length, drop, take}
+use lib.ListN.{length, drop, take, length-append}
 use lib.Seq.{take-at}
 use Rattle.exact.specs.Meaning.Matrix.{Same}
 use Rattle.exact.specs.Meaning.Number.{Ω}
@@ -25,7 +25,8 @@ use Rattle.synthesis_of_clifford_t.specs.declared.Synthesis.{Synthesis}
 use Rattle.synthesis_of_clifford_t.specs.Outcome.{SynthesiseOutcome, Answered, handed, refused}
 use Rattle.synthesis_of_clifford_t.specs.Synthesised.{reduce-ready}
 use Rattle.synthesis_of_clifford_t.specs.Counts.{answer-enough}
-use Rattle.record.specs.Meaning.{Numbers, RightRecord, WriteOutcome, answerText}
+use Rattle.record.specs.declared.Record.{Record}
+use Rattle.record.specs.Meaning.{Numbers, numbers, RightRecord, ReadOutcome, WriteOutcome}
 use Rattle.record.specs.RecordLaws.{record-once}
 use Rattle.record.specs.AnswerLaws.{write-once}
 
@@ -112,28 +113,12 @@ length-bytes : (v : List Letter) → length (bytes v) ≡ length v
 length-bytes [] = refl
 length-bytes (l ∷ v) = ap suc (length-bytes v)
 
-module _ (s : List ℕ) (x : Numbers) (right : RightRecord s x) (old : List ℕ) (room : enough ≤ length old) (job : Synthesis) (new : List ℕ) where
+module _ (x : Numbers) (old : List ℕ) (room : enough ≤ length old) (job : Synthesis) (new : List ℕ) where
   -- 376 bytes are enough: the answer's length goes by the reduced triple
   short : InExponents (x .k) → Triple.Unitary (asked x) → (v : List Letter) → Normal v → Same (word v) (entries (asked x)) → length v ≤ enough
   short i u v n e =
       let r = reduce-reduces (asked x) in
       answer-enough (reduce (asked x)) v (reduce-ready (asked x) u) (omega (arith, r .reduced .least .least (entries (asked x)) (r .same), exponent-size (x .k) i)) n (Same-trans e (Same-sym (r .same)))
-
-  moved : (j : Synthesis) → job ≡ j → BenchAnswer s (j .refusal) (take (j .bytes) new) (j .tees) → BenchAnswer s (job .refusal) (take (job .bytes) new) (job .tees)
-  moved j e = subst (λ (y : Synthesis). BenchAnswer s (y .refusal) (take (y .bytes) new) (y .tees)) (sym e)
-
-  pub bench-answer : SynthesiseOutcome (x .k) (x .n) (ring (x .z)) (ring (x .w)) old job new → BenchAnswer s (job .refusal) (take (job .bytes) new) (job .tees)
-  bench-answer (SynthesiseOutcome.exponent f e g) = moved (refused Limits.Exponent) e (BenchAnswer.exponent x right f)
-  bench-answer (SynthesiseOutcome.coefficient i f e g) = moved (refused Limits.Coefficient) e (BenchAnswer.coefficient x right i f)
-  bench-answer (SynthesiseOutcome.unitary i c f e g) = moved (refused Limits.Unitary) e (BenchAnswer.unitary x right i c f)
-  bench-answer (SynthesiseOutcome.answered i c u v n h a) = go a
-    where
-      go : Answered v old job new → BenchAnswer s (job .refusal) (take (job .bytes) new) (job .tees)
-      go (Answered.room l e f) = absurd (omega (arith, short i u v n h))
-      go (Answered.accepted l e f) =
-          moved (handed Limits.Accepted (length v) (tees v)) e
-          (subst (λ (w : List ℕ). BenchAnswer s Limits.Accepted w (tees v)) (sym (ap (take (length v)) f ∙ take-at (bytes v) (drop (length v) old) (length v) (length-bytes v)))
-          (BenchAnswer.accepted x right i c u v n h))
 
   -- what is written is not too long
   pub bench-short : SynthesiseOutcome (x .k) (x .n) (ring (x .z)) (ring (x .w)) old job new → job .bytes ≤ enough
@@ -145,3 +130,46 @@ module _ (s : List ℕ) (x : Numbers) (right : RightRecord s x) (old : List ℕ)
       go : Answered v old job new → job .bytes ≤ enough
       go (Answered.room l e f) = omega (arith, ap (λ (y : Synthesis). y .bytes) e)
       go (Answered.accepted l e f) = omega (arith, short i u v n h, ap (λ (y : Synthesis). y .bytes) e)
+
+  -- and it is there
+  pub bench-there : SynthesiseOutcome (x .k) (x .n) (ring (x .z)) (ring (x .w)) old job new → job .bytes ≤ length new
+  bench-there (SynthesiseOutcome.exponent f e g) = omega (arith, ap (λ (y : Synthesis). y .bytes) e)
+  bench-there (SynthesiseOutcome.coefficient i f e g) = omega (arith, ap (λ (y : Synthesis). y .bytes) e)
+  bench-there (SynthesiseOutcome.unitary i c f e g) = omega (arith, ap (λ (y : Synthesis). y .bytes) e)
+  bench-there (SynthesiseOutcome.answered i c u v n h a) = go a
+    where
+      go : Answered v old job new → job .bytes ≤ length new
+      go (Answered.room l e f) = omega (arith, ap (λ (y : Synthesis). y .bytes) e)
+      go (Answered.accepted l e f) = omega (arith, ap (λ (y : Synthesis). y .bytes) e, ap length f, length-append (bytes v) (drop (length v) old), length-bytes v)
+
+  module _ (s : List ℕ) (right : RightRecord s x) where
+    moved : (j : Synthesis) → job ≡ j → BenchAnswer s (j .refusal) (take (j .bytes) new) (j .tees) → BenchAnswer s (job .refusal) (take (job .bytes) new) (job .tees)
+    moved j e = subst (λ (y : Synthesis). BenchAnswer s (y .refusal) (take (y .bytes) new) (y .tees)) (sym e)
+
+    pub bench-answer : SynthesiseOutcome (x .k) (x .n) (ring (x .z)) (ring (x .w)) old job new → BenchAnswer s (job .refusal) (take (job .bytes) new) (job .tees)
+    bench-answer (SynthesiseOutcome.exponent f e g) = moved (refused Limits.Exponent) e (BenchAnswer.exponent x right f)
+    bench-answer (SynthesiseOutcome.coefficient i f e g) = moved (refused Limits.Coefficient) e (BenchAnswer.coefficient x right i f)
+    bench-answer (SynthesiseOutcome.unitary i c f e g) = moved (refused Limits.Unitary) e (BenchAnswer.unitary x right i c f)
+    bench-answer (SynthesiseOutcome.answered i c u v n h a) = go a
+      where
+        go : Answered v old job new → BenchAnswer s (job .refusal) (take (job .bytes) new) (job .tees)
+        go (Answered.room l e f) = absurd (omega (arith, short i u v n h))
+        go (Answered.accepted l e f) =
+            moved (handed Limits.Accepted (length v) (tees v)) e
+            (subst (λ (w : List ℕ). BenchAnswer s Limits.Accepted w (tees v)) (sym (ap (take (length v)) f ∙ take-at (bytes v) (drop (length v) old) (length v) (length-bytes v)))
+            (BenchAnswer.accepted x right i c u v n h))
+
+-- ---- the answer to the numbers that were read
+pub record Answers (r : Record) (old : List ℕ) (size : ℕ) (new : List ℕ) : Type 0 where
+  pub outcome : (s : List ℕ) → RightRecord s (numbers r) → BenchOutcome s old size new
+
+-- ---- after reading
+module _ (s old : List ℕ) (r : Record) (size : ℕ) (new : List ℕ) where
+  pub bench-malformed : ReadOutcome s r → (r .refusal ≡ 0 → ⊥) → WriteOutcome (r .refusal) [] 0 old new size → BenchOutcome s old size new
+  bench-malformed (ReadOutcome.accepted q right) f h = absurd (f q)
+  bench-malformed (ReadOutcome.refused e g) f h =
+      record { refusal = r .refusal; letters = []; t = 0; answer = subst⁻¹ (λ (x : ℕ). BenchAnswer s x [] 0) (ap (λ (x : Record). x .refusal) e) (BenchAnswer.malformed g); written = h }
+
+  pub bench-read : ReadOutcome s r → r .refusal ≡ 0 → Answers r old size new → BenchOutcome s old size new
+  bench-read (ReadOutcome.accepted q right) e h = h .outcome s right
+  bench-read (ReadOutcome.refused f g) e h = absurd (omega (arith, e, ap (λ (x : Record). x .refusal) f))

@@ -1,6 +1,11 @@
 // The library that other programs link: every job, with numbers and slices only.
 ghost use mathlib.Core.Path.{_≡_};
+ghost use Prim.Native.Nat.{_≤_};
+ghost use lib.ListN.{length};
+ghost use Rattle.exact.specs.Meaning.Limits.{enough};
 ghost use Rattle.dunrossel.specs.Numbers.{zOf, wOf, ten, Wide, Reduces, Multiplies};
+ghost use Rattle.dunrossel.specs.Synthesis.{countsOf, Synthesises};
+ghost use Rattle.dunrossel.specs.Bench.{Answers, BenchOutcome};
 ghost use Rattle.dunrossel.specs.Views.{eightOf, Views};
 ghost use Rattle.dunrossel.specs.Words.{counts, Writes};
 ghost use Rattle.dunrossel.specs.Cliffords.{Narrow, listed, fourOf, fiveOf, Multiplied, Inverted, Parted};
@@ -11,7 +16,9 @@ use normal_form::clifford;
 use normal_form::clifford::Axis;
 use normal_form::clifford::Clifford;
 use normal_form::clifford::Coset;
+use record::Record;
 use ring::ZOmega;
+use synthesis_of_clifford_t::Synthesis;
 use unitary::DOmegaUnitary;
 use view::matrix::View;
 
@@ -212,4 +219,61 @@ pub extern "C" fn dunrossel_view(k: i64, n: u8, zw: &[i64; 8], out: &mut [f64; 8
     let shown = answer.view;
     put_view(shown, out);
     answer.refusal
+}
+
+fn put_synthesis(answer: Synthesis, out: &mut [u64; 3])
+    ensures { λ r. ⌜ now (out .exit) ≡ countsOf answer ⌝ }
+{
+    *out = [0, answer.bytes as u64, answer.tees as u64];
+}
+
+#[no_mangle]
+pub extern "C" fn dunrossel_synthesise(
+    k: i64,
+    n: u8,
+    zw: &[i64; 8],
+    buf: &mut [u8],
+    out: &mut [u64; 3],
+) -> u8
+    ensures { λ r. ⌜ Synthesises k n (now (zw .entry)) (now (buf .entry)) r (now (out .exit)) (now (buf .exit)) ⌝ }
+{
+    let z = z_of(zw);
+    let w = w_of(zw);
+    let answer = synthesis_of_clifford_t::synthesise(k, n, z, w, buf);
+    put_synthesis(answer, out);
+    answer.refusal
+}
+
+// The answer to a right record, by job 4.
+fn answer_record(r: Record, word: &mut [u8], out: &mut [u8]) -> usize
+    requires { ⌜ enough ≤ length (now word) ⌝ ∗ ⌜ 512 ≤ length (now out) ⌝ }
+    ensures { λ size. ⌜ Answers r (now (out .entry)) size (now (out .exit)) ⌝ }
+{
+    let z = ZOmega {
+        a: r.za,
+        b: r.zb,
+        c: r.zc,
+        d: r.zd,
+    };
+    let w = ZOmega {
+        a: r.wa,
+        b: r.wb,
+        c: r.wc,
+        d: r.wd,
+    };
+    let answer = synthesis_of_clifford_t::synthesise(r.k, r.n, z, w, word);
+    let bytes = answer.bytes;
+    record::write(answer.refusal, &word[..bytes], answer.tees as u64, out)
+}
+
+#[no_mangle]
+pub extern "C" fn dunrossel_bench(text: &[u8], out: &mut [u8; 512]) -> usize
+    ensures { λ size. ⌜ BenchOutcome (now (text .entry)) (now (out .entry)) size (now (out .exit)) ⌝ }
+{
+    let r = record::read(text);
+    if r.refusal != 0 {
+        return record::write(r.refusal, b"", 0, out);
+    }
+    let mut word = [0u8; 376];
+    answer_record(r, &mut word, out)
 }
