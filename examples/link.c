@@ -1,0 +1,99 @@
+/* Calls the library from C, prints what it answers, and checks it; the status is 1 if an answer is wrong.
+ *
+ *     rt staticlib dunrossel
+ *     cc -Iinclude examples/link.c target/staticlib/libdunrossel.a -o link
+ *     ./link */
+#include "dunrossel.h"
+
+#include <stdio.h>
+#include <string.h>
+
+static int wrong;
+
+static void check(const char *what, int right)
+{
+    if (!right) {
+        wrong++;
+        printf("WRONG: %s\n", what);
+    }
+}
+
+/* An answer as it is printed, held to the text it should be. */
+static void word(const char *what, uint8_t refusal, const uint8_t *buf, const uint64_t out[3], const char *expected)
+{
+    printf("%s: refusal=%d word=%.*s t=%d\n", what, refusal, (int)out[1], (const char *)buf, (int)out[2]);
+    check(what, refusal == 0 && out[1] == strlen(expected) && memcmp(buf, expected, out[1]) == 0);
+}
+
+static void words(void)
+{
+    const uint8_t *hsh = (const uint8_t *)"HSH", *shtt = (const uint8_t *)"SHTT";
+    const int64_t x[8] = {0, 0, 0, 0, 0, 0, 0, 1}, t[8] = {0, 0, 0, 1};
+    uint8_t buf[DUNROSSEL_ENOUGH];
+    uint64_t out[3];
+    uint8_t refusal = dunrossel_normalise(hsh, 3, buf, sizeof buf, out);
+    word("normalise HSH", refusal, buf, out, "SHXSSSW");
+    refusal = dunrossel_phase_free(hsh, 3, buf, sizeof buf, out);
+    word("phase-free HSH", refusal, buf, out, "SHXSSS");
+    refusal = dunrossel_normalise(shtt, 4, buf, sizeof buf, out);
+    word("normalise SHTT", refusal, buf, out, "SHS");
+    refusal = dunrossel_synthesise(0, 4, x, buf, sizeof buf, out);
+    word("synthesise X", refusal, buf, out, "X");
+    refusal = dunrossel_synthesise(0, 1, t, buf, sizeof buf, out);
+    word("synthesise T", refusal, buf, out, "TI");
+}
+
+/* A word's matrix, and the matrix's word: the same bytes as normalising gives. */
+static void there_and_back(void)
+{
+    const uint8_t *given = (const uint8_t *)"HTSHTXTTTHSW";
+    int64_t m[10];
+    uint64_t place, normal[3], out[3];
+    uint8_t first[DUNROSSEL_ENOUGH], buf[DUNROSSEL_ENOUGH];
+    check("matrix", dunrossel_matrix(given, 12, m, &place) == 0);
+    printf("matrix of HTSHTXTTTHSW: k=%d n=%d z=%d,%d,%d,%d w=%d,%d,%d,%d\n", (int)m[0], (int)m[1], (int)m[2], (int)m[3],
+           (int)m[4], (int)m[5], (int)m[6], (int)m[7], (int)m[8], (int)m[9]);
+    check("normal word", dunrossel_normalise(given, 12, first, DUNROSSEL_ENOUGH - 1, normal) == 0);
+    first[normal[1]] = 0;
+    uint8_t refusal = dunrossel_synthesise(m[0], (uint8_t)m[1], m + 2, buf, sizeof buf, out);
+    word("word of that matrix", refusal, buf, out, (const char *)first);
+}
+
+static void numbers(void)
+{
+    const int64_t h[8] = {0, 0, 0, 1, 0, 0, 0, 1};
+    double view[8];
+    check("view of H", dunrossel_view(1, 4, h, view) == 0);
+    printf("entries of H: %.16f %.16f %.16f %.16f\n", view[0], view[2], view[4], view[6]);
+    check("entries of H", view[0] * view[0] > 0.4999999999999 && view[0] * view[0] < 0.5000000000001 && view[6] == -view[0]);
+
+    const int32_t s[4] = {0, 0, 1, 0}, c[4] = {1, 0, 1, 5};
+    int32_t product[4], inverse[4], parted[5];
+    dunrossel_clifford_product(s, c, product);
+    dunrossel_clifford_inverse(product, inverse);
+    dunrossel_clifford_coset(product, parted);
+    printf("S times H is (%d,%d,%d,%d), axis %d\n", product[0], product[1], product[2], product[3], parted[0]);
+    check("S times H", product[0] == 2 && product[1] == 0 && product[2] == 0 && product[3] == 3 && parted[0] == 2);
+    int32_t identity[4];
+    dunrossel_clifford_product(product, inverse, identity);
+    check("times its inverse", identity[0] == 0 && identity[1] == 0 && identity[2] == 0 && identity[3] == 0);
+}
+
+static void bench(void)
+{
+    const char *record = "k=1\nn=4\nz=0,0,0,1\nw=0,0,0,1\n", *expected = "refusal=0\nword=H\nt=0\nbytes=1\n";
+    uint8_t out[512];
+    size_t size = dunrossel_bench((const uint8_t *)record, strlen(record), out);
+    printf("%.*s", (int)size, (const char *)out);
+    check("bench", size == strlen(expected) && memcmp(out, expected, size) == 0);
+}
+
+int main(void)
+{
+    words();
+    there_and_back();
+    numbers();
+    bench();
+    printf("link.c: %d wrong\n", wrong);
+    return wrong != 0;
+}

@@ -1,0 +1,137 @@
+//! Calls the library from Rust, prints what it answers, and checks it; the status is not 0 if an answer is wrong.
+//!
+//!     rt staticlib dunrossel
+//!     rustc --edition 2021 -L native=target/staticlib examples/link.rs -o link
+//!     ./link
+
+/// The declarations of include/dunrossel.h; what each promises stands there.
+mod ffi {
+    #[link(name = "dunrossel", kind = "static")]
+    extern "C" {
+        pub fn dunrossel_reduce(k: i64, n: u8, zw: *const [i64; 8], out: *mut [i64; 10]) -> u8;
+        pub fn dunrossel_matrix(word: *const u8, len: usize, out: *mut [i64; 10], place: *mut u64) -> u8;
+        pub fn dunrossel_normalise(word: *const u8, len: usize, buf: *mut u8, room: usize, out: *mut [u64; 3]) -> u8;
+        pub fn dunrossel_phase_free(word: *const u8, len: usize, buf: *mut u8, room: usize, out: *mut [u64; 3]) -> u8;
+        pub fn dunrossel_synthesise(k: i64, n: u8, zw: *const [i64; 8], buf: *mut u8, room: usize, out: *mut [u64; 3]) -> u8;
+        pub fn dunrossel_clifford_product(x: *const [i32; 4], y: *const [i32; 4], out: *mut [i32; 4]);
+        pub fn dunrossel_clifford_inverse(x: *const [i32; 4], out: *mut [i32; 4]);
+        pub fn dunrossel_clifford_coset(x: *const [i32; 4], out: *mut [i32; 5]);
+        pub fn dunrossel_view(k: i64, n: u8, zw: *const [i64; 8], out: *mut [f64; 8]) -> u8;
+        pub fn dunrossel_bench(record: *const u8, len: usize, out: *mut [u8; 512]) -> usize;
+    }
+}
+
+/// A refusal's number (include/dunrossel.h names them) and its place.
+#[derive(Debug, PartialEq)]
+struct Refused {
+    number: u8,
+    place: u64,
+}
+
+/// A matrix: k, n, then z and w.
+type Triple = [i64; 10];
+
+fn parts(m: &Triple) -> (i64, u8, [i64; 8]) {
+    (m[0], m[1] as u8, m[2..].try_into().unwrap())
+}
+
+/// Room enough for the word of any matrix.
+const ENOUGH: usize = 376;
+
+fn answer<T>(number: u8, place: u64, value: T) -> Result<T, Refused> {
+    if number == 0 {
+        Ok(value)
+    } else {
+        Err(Refused { number, place })
+    }
+}
+
+fn reduce(m: &Triple) -> Result<Triple, Refused> {
+    let (k, n, zw) = parts(m);
+    let mut out = [0; 10];
+    let number = unsafe { ffi::dunrossel_reduce(k, n, &zw, &mut out) };
+    answer(number, 0, out)
+}
+
+fn matrix(word: &str) -> Result<Triple, Refused> {
+    let (mut out, mut place) = ([0; 10], 0);
+    let number = unsafe { ffi::dunrossel_matrix(word.as_ptr(), word.len(), &mut out, &mut place) };
+    answer(number, place, out)
+}
+
+/// What was written into `buf`, which the library fills with ASCII letters.
+fn written(number: u8, buf: &[u8], out: [u64; 3]) -> Result<String, Refused> {
+    let text = String::from_utf8(buf[..out[1] as usize].to_vec()).unwrap();
+    assert_eq!(text.matches('T').count() as u64, out[2]);
+    answer(number, out[0], text)
+}
+
+fn normalise(word: &str, room: usize) -> Result<String, Refused> {
+    let (mut buf, mut out) = (vec![0; room], [0; 3]);
+    let number = unsafe { ffi::dunrossel_normalise(word.as_ptr(), word.len(), buf.as_mut_ptr(), room, &mut out) };
+    written(number, &buf, out)
+}
+
+fn phase_free(word: &str, room: usize) -> Result<String, Refused> {
+    let (mut buf, mut out) = (vec![0; room], [0; 3]);
+    let number = unsafe { ffi::dunrossel_phase_free(word.as_ptr(), word.len(), buf.as_mut_ptr(), room, &mut out) };
+    written(number, &buf, out)
+}
+
+fn synthesise(m: &Triple, room: usize) -> Result<String, Refused> {
+    let (k, n, zw) = parts(m);
+    let (mut buf, mut out) = (vec![0; room], [0; 3]);
+    let number = unsafe { ffi::dunrossel_synthesise(k, n, &zw, buf.as_mut_ptr(), room, &mut out) };
+    written(number, &buf, out)
+}
+
+fn view(m: &Triple) -> Result<[f64; 8], Refused> {
+    let (k, n, zw) = parts(m);
+    let mut out = [0.0; 8];
+    let number = unsafe { ffi::dunrossel_view(k, n, &zw, &mut out) };
+    answer(number, 0, out)
+}
+
+fn bench(record: &str) -> String {
+    let mut out = [0; 512];
+    let size = unsafe { ffi::dunrossel_bench(record.as_ptr(), record.len(), &mut out) };
+    String::from_utf8(out[..size].to_vec()).unwrap()
+}
+
+fn cliffords() {
+    let (s, h) = ([0, 0, 1, 0], [1, 0, 1, 5]);
+    let (mut product, mut inverse, mut identity, mut parted) = ([0; 4], [0; 4], [7; 4], [0; 5]);
+    unsafe {
+        ffi::dunrossel_clifford_product(&s, &h, &mut product);
+        ffi::dunrossel_clifford_inverse(&product, &mut inverse);
+        ffi::dunrossel_clifford_product(&product, &inverse, &mut identity);
+        ffi::dunrossel_clifford_coset(&product, &mut parted);
+    }
+    println!("S times H is {product:?}, its inverse {inverse:?}, its axis {}", parted[0]);
+    assert_eq!((product, identity, parted), ([2, 0, 0, 3], [0; 4], [2, 0, 0, 0, 0]));
+}
+
+fn main() {
+    for (word, normal) in [("", "I"), ("T", "TI"), ("HSH", "SHXSSSW"), ("SHTT", "SHS"), ("XT", "TXSWWWWWWW")] {
+        println!("normalise {word}: {:?}", normalise(word, ENOUGH));
+        assert_eq!(normalise(word, ENOUGH).as_deref(), Ok(normal));
+        let m = matrix(word).unwrap();
+        assert_eq!(reduce(&m), Ok(m));
+        assert_eq!(synthesise(&m, ENOUGH).as_deref(), Ok(normal));
+    }
+    assert_eq!(phase_free("HSH", 6).as_deref(), Ok("SHXSSS"));
+    assert_eq!(normalise("T", 1), Err(Refused { number: 7, place: 0 }));
+    assert_eq!(normalise(&"T".repeat(4097), ENOUGH), Err(Refused { number: 1, place: 0 }));
+    assert_eq!(matrix("HTZ"), Err(Refused { number: 2, place: 2 }));
+    assert_eq!(matrix(&"HT".repeat(122)), Err(Refused { number: 6, place: 4 }));
+
+    let h = matrix("H").unwrap();
+    println!("H: {h:?}, {:?}", view(&h).unwrap());
+    assert!((view(&h).unwrap()[0] - std::f64::consts::FRAC_1_SQRT_2).abs() < 1e-15);
+    cliffords();
+
+    let text = bench("k=1\nn=4\nz=0,0,0,1\nw=0,0,0,1\n");
+    print!("{text}");
+    assert_eq!(text, "refusal=0\nword=H\nt=0\nbytes=1\n");
+    println!("link.rs: every answer is right");
+}

@@ -1,0 +1,89 @@
+/* Dunrossel: the words of H, S, X, W, T for exact one-qubit matrices. For libdunrossel.a (rt staticlib dunrossel), x86-64.
+ *
+ * Numbers. zw is z.a z.b z.c z.d w.a w.b w.c w.d; (a,b,c,d) stands for a·omega^3 + b·omega^2 + c·omega + d. With k and n
+ * they are the matrix with rows [z, -conj(w)·omega^n] and [w, conj(z)·omega^n] over root two to the k; n counts modulo 8.
+ *
+ * Words are bytes, one for each letter, with no zero at the end. The leftmost letter is the leftmost factor.
+ *
+ * A slice is a pointer and the number of bytes behind it. Nothing is read or written through the pointer of an empty slice.
+ *
+ * out (and place) are results: always written, whatever they held; all zeros where the call is refused, but for a place.
+ * buf is lent memory of `room` bytes: a refusal leaves it as it was, and so does an answer beyond the answer's length.
+ *
+ * Every value of the numbers and bytes is answered or refused. What no function can test is the caller's to keep: each
+ * pointer leads to as many elements as its declaration or its length says, and no memory that is written (out, place, buf)
+ * overlaps another argument's.
+ *
+ * The result is 0 or the number of a refusal; of several that hold, the first in the list. No call keeps memory, a pointer
+ * or a state; calls may run side by side. A later number comes through a new function: no out array grows. */
+#ifndef DUNROSSEL_H
+#define DUNROSSEL_H
+
+#include <stddef.h>
+#include <stdint.h>
+
+enum {
+    DUNROSSEL_ACCEPTED = 0,
+    DUNROSSEL_LONG = 1,        /* the word has more than 4,096 letters */
+    DUNROSSEL_LETTER = 2,      /* a byte is none of the function's letters; place: the first such */
+    DUNROSSEL_EXPONENT = 3,    /* k is below 0 or over 60 */
+    DUNROSSEL_COEFFICIENT = 4, /* one of zw is below -2^30 or over 2^30 */
+    DUNROSSEL_UNITARY = 5,     /* the matrix isn't unitary */
+    DUNROSSEL_DEEP = 6,        /* an ending of the word has reduced exponent over 60; place: the rightmost start of one */
+    DUNROSSEL_ROOM = 7,        /* the answer has more bytes than `room` */
+    DUNROSSEL_RECORD = 8       /* the bench record is malformed */
+};
+
+/* The longest word that is taken; a room that dunrossel_synthesise never finds too small. */
+enum { DUNROSSEL_LETTERS = 4096, DUNROSSEL_ENOUGH = 376 };
+
+#ifdef __cplusplus
+extern "C" {
+#endif
+
+/* The same matrix with the least k (0 to 60) and n from 0 to 7. out: k, n, then zw.
+ * Refuses 3, 4, 5. */
+uint8_t dunrossel_reduce(int64_t k, uint8_t n, const int64_t zw[8], int64_t out[10]);
+
+/* The product of the word's letters I H S X W T, reduced. out: k, n, then zw; *place: where a refusal 2 or 6 lies, else 0.
+ * Refuses 1, 2, 6. */
+uint8_t dunrossel_matrix(const uint8_t *word, size_t len, int64_t out[10], uint64_t *place);
+
+/* Writes the normal word with the matrix of the word's letters H S X W T into buf. The same matrix gives the same bytes,
+ * and no word has fewer T. out: place of a refusal 2 (else 0), bytes written, T letters written.
+ * Refuses 1, 2, 7. */
+uint8_t dunrossel_normalise(const uint8_t *word, size_t len, uint8_t *buf, size_t room, uint64_t out[3]);
+
+/* The same without the normal word's final W letters: the matrix up to a power of omega. Refuses 1, 2, 7 (7 by the shorter
+ * word). */
+uint8_t dunrossel_phase_free(const uint8_t *word, size_t len, uint8_t *buf, size_t room, uint64_t out[3]);
+
+/* Writes the normal word of a matrix, reduced or not, into buf: at most 6k+16 bytes, k reduced, and the bytes that
+ * dunrossel_normalise gives for any word with this matrix. out: 0, bytes written, T letters written.
+ * Refuses 3, 4, 5, 7. */
+uint8_t dunrossel_synthesise(int64_t k, uint8_t n, const int64_t zw[8], uint8_t *buf, size_t room, uint64_t out[3]);
+
+/* Cliffords (a,b,c,d) = E^a X^b S^c omega^d, any numbers taken; an answer has a in 0..2, b in 0..1, c in 0..3, d in 0..7.
+ * E = H·S^3·omega^3, so H is (1,0,1,5) and S is (0,0,1,0). Nothing is refused. out: x times y. */
+void dunrossel_clifford_product(const int32_t x[4], const int32_t y[4], int32_t out[4]);
+
+/* out: the inverse of x. */
+void dunrossel_clifford_inverse(const int32_t x[4], int32_t out[4]);
+
+/* Parts x into an axis and a rest with a = 0, x being axis times rest. out: the axis (0 for none, 1 for H, 2 for SH), then
+ * the rest's four numbers. */
+void dunrossel_clifford_coset(const int32_t x[4], int32_t out[5]);
+
+/* The four entries as floating point, row by row, real then imaginary part, each within 2^-50 of the exact value.
+ * Refuses 3, 4, 5. */
+uint8_t dunrossel_view(int64_t k, uint8_t n, const int64_t zw[8], double out[8]);
+
+/* What the bench program writes for a record, into out; the result is its number of bytes, those beyond are as before.
+ * A refusal (3, 4, 5, 8) stands in the text: refusal=, an empty word, t=0, bytes=0. */
+size_t dunrossel_bench(const uint8_t *record, size_t len, uint8_t out[512]);
+
+#ifdef __cplusplus
+}
+#endif
+
+#endif

@@ -1,0 +1,206 @@
+/* The library either side of each limit, from C: what a refusal leaves alone and what it clears. The status is 1 if an
+ * answer is wrong. */
+#include "dunrossel.h"
+
+#include <stdio.h>
+#include <string.h>
+
+static int wrong;
+
+static void check(const char *what, int right)
+{
+    if (!right) {
+        wrong++;
+        printf("WRONG: %s\n", what);
+    }
+}
+
+enum { MANY = 11014144 }; /* 4,096 once it is cut to 16 bits */
+static uint8_t many[MANY], lent[MANY];
+
+/* ---- jobs 3 and 5 */
+
+typedef uint8_t writer(const uint8_t *, size_t, uint8_t *, size_t, uint64_t *);
+
+static void refused(writer *job, size_t len, size_t room, uint8_t number, uint64_t place)
+{
+    uint64_t out[3] = {7, 7, 7};
+    size_t touched = 0;
+    memset(lent, '.', sizeof lent);
+    uint8_t refusal = job(many, len, lent, room, out);
+    for (size_t i = 0; i < sizeof lent; i++) touched += lent[i] != '.';
+    printf("%lu letters, room %lu: refusal=%d place=%d\n", (unsigned long)len, (unsigned long)room, refusal, (int)out[0]);
+    check("refusal", refusal == number && out[0] == place && out[1] == 0 && out[2] == 0);
+    check("lent memory untouched", touched == 0);
+}
+
+static void filled(writer *job, size_t len, size_t room, const char *expected)
+{
+    uint64_t out[3] = {7, 7, 7};
+    size_t bytes = strlen(expected), touched = 0;
+    memset(lent, '.', sizeof lent);
+    uint8_t refusal = job(many, len, lent, room, out);
+    for (size_t i = bytes; i < sizeof lent; i++) touched += lent[i] != '.';
+    printf("%lu letters, room %lu: refusal=%d bytes=%d\n", (unsigned long)len, (unsigned long)room, refusal, (int)out[1]);
+    check("accepted", refusal == 0 && out[0] == 0 && out[1] == bytes && memcmp(lent, expected, bytes) == 0);
+    check("nothing beyond the length", touched == 0);
+}
+
+static void words(const char *what, writer *job, const char *hsh)
+{
+    uint64_t out[3] = {7, 7, 7};
+    printf("%s\n", what);
+    memset(many, 'T', sizeof many); /* eight T are the identity */
+    refused(job, MANY, sizeof lent, DUNROSSEL_LONG, 0);
+    refused(job, 4097, sizeof lent, DUNROSSEL_LONG, 0);
+    filled(job, 4096, sizeof lent, "I");
+    filled(job, 1, 2, "TI");
+    refused(job, 1, 1, DUNROSSEL_ROOM, 0);
+    refused(job, 1, 0, DUNROSSEL_ROOM, 0);
+    filled(job, 4095, 4, "TSSS");
+    refused(job, 4095, 3, DUNROSSEL_ROOM, 0);
+    many[4095] = 'Z';
+    refused(job, 4096, 0, DUNROSSEL_LETTER, 4095);
+    memcpy(many, "HSH", 3);
+    filled(job, 3, strlen(hsh), hsh);
+    refused(job, 3, strlen(hsh) - 1, DUNROSSEL_ROOM, 0);
+    check("an empty slice", job(NULL, 0, NULL, 0, out) == DUNROSSEL_ROOM && out[0] == 0 && out[1] == 0 && out[2] == 0);
+    filled(job, 0, 1, "I");
+}
+
+/* ---- job 2 */
+
+static void matrix(size_t len, uint8_t number, uint64_t expected)
+{
+    int64_t out[10];
+    uint64_t place = 7;
+    memset(out, 1, sizeof out);
+    uint8_t refusal = dunrossel_matrix(many, len, out, &place);
+    printf("%lu letters: refusal=%d place=%d k=%d\n", (unsigned long)len, refusal, (int)place, (int)out[0]);
+    check("matrix", refusal == number && place == expected);
+    if (refusal)
+        for (int i = 0; i < 10; i++) check("numbers of a refusal are 0", out[i] == 0);
+}
+
+static void matrices(void)
+{
+    printf("matrix\n");
+    memset(many, 'T', sizeof many);
+    matrix(MANY, DUNROSSEL_LONG, 0);
+    matrix(4097, DUNROSSEL_LONG, 0);
+    matrix(4096, 0, 0);
+    matrix(0, 0, 0);
+    many[4095] = 'Z';
+    matrix(4096, DUNROSSEL_LETTER, 4095);
+    for (size_t i = 0; i < 244; i++) many[i] = i % 2 ? 'T' : 'H';
+    matrix(238, 0, 0);
+    matrix(240, DUNROSSEL_DEEP, 0);
+    matrix(244, DUNROSSEL_DEEP, 4);
+}
+
+/* ---- job 4: HT 119 times has k = 60 and is its own normal word but for the I */
+
+static void synthesised(const int64_t m[10], size_t room, uint8_t number)
+{
+    uint64_t out[3] = {7, 7, 7};
+    size_t bytes = number ? 0 : 239, touched = 0;
+    memset(lent, '.', sizeof lent);
+    uint8_t refusal = dunrossel_synthesise(m[0], (uint8_t)m[1], m + 2, lent, room, out);
+    for (size_t i = bytes; i < sizeof lent; i++) touched += lent[i] != '.';
+    printf("k=60, room %lu: refusal=%d bytes=%d t=%d\n", (unsigned long)room, refusal, (int)out[1], (int)out[2]);
+    check("synthesise", refusal == number && out[0] == 0 && out[1] == bytes && out[2] == bytes / 2);
+    check("the word", memcmp(lent, many, bytes) == 0);
+    check("nothing beyond the length", touched == 0);
+}
+
+static void synthesis(void)
+{
+    int64_t m[10];
+    uint64_t place;
+    printf("synthesise\n");
+    for (size_t i = 0; i < 238; i++) many[i] = i % 2 ? 'T' : 'H';
+    check("deepest", dunrossel_matrix(many, 238, m, &place) == 0 && m[0] == 60);
+    many[238] = 'I';
+    synthesised(m, DUNROSSEL_ENOUGH, 0);
+    synthesised(m, 239, 0);
+    synthesised(m, 238, DUNROSSEL_ROOM);
+    synthesised(m, 0, DUNROSSEL_ROOM);
+}
+
+/* ---- jobs 1, 4 and 7 on triples that they refuse */
+
+static void triple(const char *what, int64_t k, const int64_t zw[8], uint8_t number)
+{
+    int64_t ten[10];
+    double view[8];
+    uint64_t out[3] = {7, 7, 7};
+    memset(ten, 1, sizeof ten);
+    memset(view, 1, sizeof view);
+    memset(lent, '.', DUNROSSEL_ENOUGH);
+    uint8_t refusal = dunrossel_reduce(k, 0, zw, ten);
+    printf("%s: refusal=%d\n", what, refusal);
+    check("reduce refuses", refusal == number);
+    check("view refuses", dunrossel_view(k, 0, zw, view) == number);
+    check("synthesise refuses", dunrossel_synthesise(k, 0, zw, lent, DUNROSSEL_ENOUGH, out) == number);
+    for (int i = 0; i < 10; i++) check("numbers of a refusal are 0", ten[i] == 0);
+    for (int i = 0; i < 8; i++) check("view of a refusal is 0", view[i] == 0);
+    check("counts of a refusal are 0", out[0] == 0 && out[1] == 0 && out[2] == 0);
+    for (int i = 0; i < DUNROSSEL_ENOUGH; i++) check("lent memory untouched", lent[i] == '.');
+}
+
+static void triples(void)
+{
+    const int64_t top = 1 << 30;
+    const int64_t one[8] = {0, 0, 0, 1}, both[8] = {0, 0, 0, 1, 0, 0, 0, 1}, cross[8] = {0, 0, 1, 1};
+    const int64_t deep[8] = {0, -top, 0, 0, top}, over[8] = {0, 0, 0, top + 1}, under[8] = {-top - 1};
+    const int64_t least[8] = {0, 0, 0, 0, 0, 0, 0, INT64_MIN}, identity[8] = {0, 0, 0, top};
+    int64_t ten[10];
+    triple("k = -1", -1, one, DUNROSSEL_EXPONENT);
+    triple("k = 61", 61, deep, DUNROSSEL_EXPONENT);
+    triple("k = -2^63", INT64_MIN, least, DUNROSSEL_EXPONENT);
+    triple("2^30 + 1", 60, over, DUNROSSEL_COEFFICIENT);
+    triple("-2^30 - 1", 60, under, DUNROSSEL_COEFFICIENT);
+    triple("-2^63", 0, least, DUNROSSEL_COEFFICIENT);
+    triple("z = w = 1, k = 0", 0, both, DUNROSSEL_UNITARY);
+    triple("the squares alone fit", 1, cross, DUNROSSEL_UNITARY);
+    check("2^30 is accepted", dunrossel_reduce(60, 255, identity, ten) == 0 && ten[0] == 0 && ten[1] == 7 && ten[5] == 1);
+}
+
+/* ---- the bench record */
+
+static void bench(const char *what, size_t len, const char *expected)
+{
+    uint8_t out[512];
+    memset(out, '.', sizeof out);
+    size_t size = dunrossel_bench(many, len, out);
+    printf("%s: %.9s, %lu bytes\n", what, (const char *)out, (unsigned long)size);
+    check("bench", size == strlen(expected) && memcmp(out, expected, strlen(expected)) == 0);
+    for (size_t i = strlen(expected); i < sizeof out; i++) check("beyond the bench answer", out[i] == '.');
+}
+
+static void records(void)
+{
+    const char *right = "k=1\nn=4\nz=0,0,0,1\nw=0,0,0,1\n";
+    const char *h = "refusal=0\nword=H\nt=0\nbytes=1\n", *malformed = "refusal=8\nword=\nt=0\nbytes=0\n";
+    printf("bench\n");
+    memset(many, 0, sizeof many);
+    bench("no byte", 0, malformed);
+    bench("zeros", MANY, malformed);
+    memcpy(many, right, strlen(right));
+    bench("a right record", strlen(right), h);
+    bench("its last LF missing", strlen(right) - 1, malformed);
+    bench("a byte more", strlen(right) + 1, malformed);
+    bench("many more", MANY, malformed);
+}
+
+int main(void)
+{
+    words("normalise", dunrossel_normalise, "SHXSSSW");
+    words("phase_free", dunrossel_phase_free, "SHXSSS");
+    matrices();
+    synthesis();
+    triples();
+    records();
+    printf("limits.c: %d wrong\n", wrong);
+    return wrong != 0;
+}
