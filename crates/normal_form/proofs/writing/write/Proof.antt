@@ -19,12 +19,15 @@ add-n c =
     let the-pre = c .before .before .before .before .before .pre in
     omega (arith, bytes-most (the-pre .0 .holds) (the-pre .1), c .before .size .ensures, c .before .before .ending-of .ensures .few)
 
+refused-requires : tie.Need-refused-requires
+refused-requires c κs = search needs
+
 returns : tie.Need-returns
 returns c =
-    let the-args = c .before .before .before .before .before .before .args in
-    let the-ending-of = c .before .before .before .ending-of in
-    let the-size = c .before .before .size in
-    no-room (the-args .phase) (now (the-args .items)) (the-args .r) (now (the-args .buf)) (the-ending-of .result) (the-ending-of .ensures .is) (the-size .result) (the-size .ensures) (c .if1 .taken)
+    let the-args = c .before .before .before .before .before .before .before .args in
+    let the-ending-of = c .before .before .before .before .ending-of in
+    let the-size = c .before .before .before .size in
+    no-room (the-args .phase) (now (the-args .items)) (the-args .r) (now (the-args .buf)) (the-ending-of .result) (the-ending-of .ensures .is) (the-size .result) (c .refused .result) (the-size .ensures) (c .before .if1 .taken) (c .refused .ensures)
 
 put-syllables-requires : tie.Need-put-syllables-requires
 put-syllables-requires c κs =
@@ -64,6 +67,7 @@ write-spec =
     ending-of-requires
     size-requires
     add-n
+    refused-requires
     returns
     put-syllables-requires
     put-ending-requires
