@@ -57,10 +57,10 @@ pub one-step : (new : List ℕ) → SynthesiseOutcome (pos 2) 2 (number (pos 0) 
 unfolding powerBy
 one-step new o =
     let e : _≡_ {A = ℕ} 1 5 =
-        ap (λ (r : Synthesis). r .bytes)
-        (only (pos 2) 2 (number (pos 0) (pos 0) (pos 1) (pos 1)) (number (pos 0) (pos 0) (negsuc 0) (pos 1)) (H ∷ T′ ∷ H ∷ T′ ∷ I ∷ []) (replicate {A = ℕ} 5 0) (record { low = record { le = tt }; high = record { le = tt } })
-        (record { z-in = record { a-small = omega arith; b-small = omega arith; c-small = omega arith; d-small = omega arith }; w-in = record { a-small = omega arith; b-small = omega arith; c-small = omega arith; d-small = omega arith } })
-        (record { squares-sum = refl; crosses-sum = refl }) tt tt (omega arith) (handed Accepted (length (block (power twoSteps))) (tees (block (power twoSteps)))) new o) in
+    ap (λ (r : Synthesis). r .bytes)
+    (only (pos 2) 2 (number (pos 0) (pos 0) (pos 1) (pos 1)) (number (pos 0) (pos 0) (negsuc 0) (pos 1)) (H ∷ T′ ∷ H ∷ T′ ∷ I ∷ []) (replicate {A = ℕ} 5 0) (record { low = record { le = tt }; high = record { le = tt } })
+    (record { z-in = record { a-small = omega arith; b-small = omega arith; c-small = omega arith; d-small = omega arith }; w-in = record { a-small = omega arith; b-small = omega arith; c-small = omega arith; d-small = omega arith } })
+    (record { squares-sum = refl; crosses-sum = refl }) tt tt (omega arith) (handed Accepted (length (block (power twoSteps))) (tees (block (power twoSteps)))) new o) in
     omega arith
 
 -- ---- T: the letter T before normalising, and TI
@@ -71,6 +71,6 @@ pub letters-as-they-are : (new : List ℕ) → SynthesiseOutcome (pos 0) 1 one n
 unfolding letters gathered closing back
 letters-as-they-are new o =
     let e : _≡_ {A = ℕ} 1 2 =
-        ap (λ (r : Synthesis). r .bytes)
-        (only (pos 0) 1 one nil (T′ ∷ I ∷ []) (0 ∷ 0 ∷ []) (record { low = record { le = tt }; high = record { le = tt } }) few (record { squares-sum = refl; crosses-sum = refl }) tt tt (omega arith) (handed Accepted (length (letters oneT)) (tees (letters oneT))) new o) in
+    ap (λ (r : Synthesis). r .bytes)
+    (only (pos 0) 1 one nil (T′ ∷ I ∷ []) (0 ∷ 0 ∷ []) (record { low = record { le = tt }; high = record { le = tt } }) few (record { squares-sum = refl; crosses-sum = refl }) tt tt (omega arith) (handed Accepted (length (letters oneT)) (tees (letters oneT))) new o) in
     omega arith
