@@ -2,7 +2,7 @@
 use mathlib.Core.Path.{_≡_, ap, subst, sym}
 use Prim.Native.Nat.{_^_}
 use native.Mathlib.Omega.{arith}
-use Rattle.exact.specs.Meaning.Number.{Ω, Sized}
+use Rattle.exact.specs.Meaning.Number.{Sized}
 use Rattle.exact.specs.Meaning.Triple.{Triple}
 use Rattle.exact.specs.Matrices.Triples.{identity}
 use Rattle.ring.specs.Number.{Small}

@@ -1,9 +1,9 @@
 -- `synthesis_of_clifford_t::power_of_omega` meets its contract: the first odd coefficient tells.
-use mathlib.Core.Path.{_≡_, sym, _∙_, ap}
+use mathlib.Core.Path.{sym, _∙_, ap}
 use Prim.Native.Nat.{_^_}
 use lib.IntN.{ℤ}
 use Rattle.exact.specs.Meaning.Number.{odd}
-use Rattle.exact.specs.Whole.Machine.{Code, arg}
+use Rattle.exact.specs.Whole.Machine.{arg}
 use Rattle.ring.specs.Number.{quad}
 use Rattle.ring.specs.Code.{gives₁}
 use Rattle.synthesis_of_clifford_t.specs.Closes.{signOf, which-a, which-b, which-c, which-d}

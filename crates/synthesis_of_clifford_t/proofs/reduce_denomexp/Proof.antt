@@ -1,5 +1,5 @@
 -- `synthesis_of_clifford_t::reduce_denomexp` meets its contract: the step where k is over 0, and no other.
-use mathlib.Core.Path.{_≡_, refl, sym, _∙_, ap, ap₂}
+use mathlib.Core.Path.{_≡_, sym, _∙_, ap₂}
 use Prim.Native.Nat.{ℕ, _<_}
 use native.Mathlib.Omega.{arith}
 use Rattle.exact.specs.Meaning.Number.{Ω, residue}
@@ -8,7 +8,6 @@ use Rattle.unitary.specs.Acts.{good-z, good-w}
 use Rattle.unitary.specs.Triples.{triple}
 use Rattle.synthesis_of_clifford_t.specs.Residues.{powerBy, fallsBy}
 use Rattle.synthesis_of_clifford_t.specs.Step.{power-few}
-use Rattle.synthesis_of_clifford_t.specs.Synthesised.{reduction-ended}
 use Rattle.synthesis_of_clifford_t.specs.Code.{residue-few, turned-small, raised-small, raised-k, step-falls, step-stays}
 use borrow.Author.Needs.{needs}
 use Rattle.synthesis_of_clifford_t.proofs.reduce_denomexp.Statement.{statement}

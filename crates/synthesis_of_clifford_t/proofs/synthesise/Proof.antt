@@ -1,5 +1,5 @@
 -- `synthesis_of_clifford_t::synthesise` meets its contract: what the check refuses is refused, and the rest is reduced and answered.
-use mathlib.Core.Path.{_≡_, subst}
+use mathlib.Core.Path.{subst}
 use Prim.Native.Nat.{ℕ}
 use lib.IntN.{ℤ}
 use mir.Facts.{toZ-ofZ}

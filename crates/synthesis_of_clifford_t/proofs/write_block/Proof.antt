@@ -1,5 +1,4 @@
 -- `synthesis_of_clifford_t::write_block` meets its contract: T m modulo 2 times, S half of m times, and H.
-use mathlib.Core.Path.{_≡_}
 use Prim.Native.Nat.{ℕ, _%_, _/_}
 use native.Mathlib.Omega.{arith}
 use lib.ListN.{length-replicate}
