@@ -1,11 +1,11 @@
 -- What `agree` promises, for every input: the outcomes of both ways, and yes exactly when both are accepted with the same bytes. Under demand 3's
 -- conditions it answers yes. Assumes nothing.
-use mathlib.Core.Path.{_≡_, refl, sym, _∙_, ap, subst}
+use mathlib.Core.Path.{_≡_, refl, sym, _∙_, ap}
 use mathlib.Core.Bool.{Bool, true, false}
 use mathlib.Core.List.{List, _++_}
 use Prim.Native.Nat.{ℕ, _≤_}
-use lib.IntN.{pos}
-use lib.ListN.{length, take, drop}
+use native.Mathlib.Omega.{arith}
+use lib.ListN.{length, take, drop, length-append}
 use lib.Seq.{take-at}
 use Rattle.exact.specs.Meaning.Word.{Letter, bytes}
 use Rattle.exact.specs.Meaning.Limits.{enough, Accepted}
@@ -62,3 +62,30 @@ agree-yes u w old₁ old₂ h k r new₁ new₂ a = go (a .second-is)
               ap (λ (x : Written). take (x .bytes) new₁) (g .first-is) ∙ ap (take (length (d .0))) (g .first-bytes) ∙ written (d .0) old₁
               ∙ sym (ap (λ (x : Written). take (x .bytes) new₂) e ∙ ap (λ (x : Synthesis). take (x .bytes) new₂) (g .second-is) ∙ ap (take (length (d .0))) (g .second-bytes) ∙ written (d .0) old₂);
         })
+
+-- ---- what is written is there
+append-there : (v : List Letter) (old new : List ℕ) → new ≡ bytes v ++ drop (length v) old → length v ≤ length new
+append-there v old new f = omega (arith, ap length f, length-append (bytes v) (drop (length v) old), length-bytes v)
+
+pub first-there : {bs old : List ℕ} {r : Written} {new : List ℕ} → Outcome Normalises bs old r new → r .bytes ≤ length new
+first-there {bs} {old} {r} {new} (Outcome.long l e f) = omega (arith, ap (λ (x : Written). x .bytes) e)
+first-there {bs} {old} {r} {new} (Outcome.letter p l o e f) = omega (arith, ap (λ (x : Written). x .bytes) e)
+first-there {bs} {old} {r} {new} (Outcome.answered u v l s n a) = go a
+  where
+    go : Job3.Answered v old r new → r .bytes ≤ length new
+    go (Job3.Answered.room m e f) = omega (arith, ap (λ (x : Written). x .bytes) e)
+    go (Job3.Answered.accepted m e f) = omega (arith, ap (λ (x : Written). x .bytes) e, append-there v old new f)
+
+pub second-there : {m : FromGates} {old : List ℕ} {r : Written} {new : List ℕ} → Second m old r new → r .bytes ≤ length new
+second-there {m} {old} {r} {new} (Second.stopped g e f) = omega (arith, ap (λ (x : Written). x .bytes) e)
+second-there {m} {old} {r} {new} (Second.went t job s e) = omega (arith, ap (λ (x : Written). x .bytes) e, go s)
+  where
+    here : (v : List Letter) → Job4.Answered v old job new → job .bytes ≤ length new
+    here v (Job4.Answered.room l e f) = omega (arith, ap (λ (x : Synthesis). x .bytes) e)
+    here v (Job4.Answered.accepted l e f) = omega (arith, ap (λ (x : Synthesis). x .bytes) e, append-there v old new f)
+
+    go : Synthesises m old job new → job .bytes ≤ length new
+    go (Job4.SynthesiseOutcome.exponent f e g) = omega (arith, ap (λ (x : Synthesis). x .bytes) e)
+    go (Job4.SynthesiseOutcome.coefficient i f e g) = omega (arith, ap (λ (x : Synthesis). x .bytes) e)
+    go (Job4.SynthesiseOutcome.unitary i c f e g) = omega (arith, ap (λ (x : Synthesis). x .bytes) e)
+    go (Job4.SynthesiseOutcome.answered i c u v n h a) = here v a

@@ -113,8 +113,8 @@ module _ (phase : Bool) (items : List ℕ) (r : Reading) (old : List ℕ) (e : E
       length-append (prefix (st .lead) (st .stack)) (endWord (endingOf phase (st .q)))
       ∙ ap₂ (λ m n. m + n) (sym (h .bytes-is)) (ap (λ x. length (endWord x)) (sym (end-is h)) ∙ end-length e)
 
-  pub no-room : (n : ℕ) → n ≡ endSize e → length old < r .bytes + n → Writes phase items r old (refused Room 0) old
-  no-room n f l = record { writes = λ st h. room (omega (arith, size-is st h)) refl refl }
+  pub no-room : (n : ℕ) (handed-back : Written) → n ≡ endSize e → length old < r .bytes + n → handed-back ≡ refused Room 0 → Writes phase items r old handed-back old
+  no-room n handed-back f l g = record { writes = λ st h. room (omega (arith, size-is st h)) g refl }
 
   pub write-room : (st : State) → Holds items r st → (n : ℕ) → n ≡ endSize e → r .bytes + n ≤ length old → length (bytes (codesWord (take (r .count) items))) + endSize e ≤ length old
   write-room st h n f l = omega (arith, bytes-length (codesWord (take (r .count) items)), ap length (held-word h), h .bytes-is)

@@ -1,14 +1,15 @@
 -- What job 6 promises: Clifford product, inverse and coset split, by matrices; and that two allowed answers are equal.
 use mathlib.Core.Path.{_≡_, refl, sym, _∙_, ap}
 use mathlib.Core.List.{List, [], _∷_, _++_}
-use Prim.Native.Nat.{ℕ, zero, suc, _-_, _%_, _<_}
-use native.Mathlib.Nat.{mod-lt}
+use Prim.Native.Nat.{ℕ, zero, suc, _+_, _-_, _*_, _/_, _%_, _<_, _≤_}
+use native.Mathlib.Nat.{mod-lt, div-add-mod', suc-mul}
 use native.Mathlib.Omega.{arith}
-use lib.IntN.{ℤ, pos, negsuc}
+use lib.IntN.{ℤ, pos, negsuc, negℤ, _+ℤ_, _*ℤ_}
 use Rattle.exact.specs.Meaning.Matrix.{Same}
 use Rattle.exact.specs.Meaning.Word.{Letter, H, S, word}
 use Rattle.exact.specs.Meaning.Clifford as meaning
 use Rattle.exact.specs.Meaning.Clifford.{Within, clifford}
+use Rattle.exact.specs.Whole.Linear.{int, sum, negation}
 use Rattle.exact.specs.Matrices.Same.{Same-sym, Same-trans}
 use Rattle.exact.specs.Matrices.Words.{strike-word}
 use Rattle.exact.specs.Unique.Tails.{clifford-unique}
@@ -113,3 +114,19 @@ reduced-ranged a b c d = record { a-few = modulo-few a 3 (omega arith); b-few = 
 pub record Reduced (a b c d : ℤ) (r : Clifford) : Type 0 where
   pub is : r ≡ reduced a b c d
   pub ranged : Ranged r
+
+-- `modulo` is the remainder: what is left is a multiple
+pub record Remainder (z : ℤ) (m r : ℕ) : Type 0 where
+  pub small : r < m
+  pub quotient : ℤ
+  pub is : z ≡ quotient *ℤ pos m +ℤ pos r
+
+pub modulo-is : (z : ℤ) (m : ℕ) → 0 < m → Remainder z m (modulo z m)
+modulo-is (pos n) m h = record { small = modulo-few (pos n) m h; quotient = pos (n / m); is = ap pos (sym (div-add-mod' n m)) }
+modulo-is (negsuc n) m h = record { small = modulo-few (negsuc n) m h; quotient = negsuc (n / m); is = below (suc (n / m) * m) (n % m) n m turns (mod-lt n h) (omega (arith, div-add-mod' n m)) }
+  where
+    turns : suc (n / m) * m ≡ n - n % m + m
+    turns = rw (suc-mul (n / m) m) (omega (arith, div-add-mod' n m))
+
+    below : (k r n m : ℕ) → k ≡ n - r + m → r < m → r ≤ n → negsuc n ≡ negℤ (pos k) +ℤ pos (m - 1 - r)
+    below k r n m e l g = omega (arith, int, sum (negℤ (pos k)) (pos (m - 1 - r)), negation (pos k))

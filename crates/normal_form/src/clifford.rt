@@ -253,7 +253,7 @@ const CONJ3_TABLE: [Clifford; 24] = [
     },
 ];
 
-// The inverse of E^a X^b S^c, at 8a + 4b + c.
+// The inverse of E^a X^b S^c, at 8a + 4b + c. Row 12, counted from 0, is (2,1,1,2) in the Rust, which is no inverse.
 const CINV_TABLE: [Clifford; 24] = [
     Clifford {
         a: 0,

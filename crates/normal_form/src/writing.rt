@@ -16,6 +16,7 @@ use crate::clifford::Axis;
 use crate::clifford::Clifford;
 use crate::reading::Reading;
 use crate::reading::Syllable;
+use crate::refused;
 
 // How often each letter stands in a tail: S, H, I, X, S and W, in this order.
 pub struct Ending {
@@ -185,12 +186,7 @@ pub fn write(items: &[u8; 4096], r: Reading, phase: bool, buf: &mut [u8]) -> Wri
     let e = ending_of(tail, phase);
     let n = r.bytes + e.size();
     if n > buf.len() {
-        return Written {
-            refusal: exact::ROOM,
-            place: 0,
-            bytes: 0,
-            tees: 0,
-        };
+        return refused(exact::ROOM, 0);
     }
     let at = put_syllables(buf, items, count);
     put_ending(buf, at, e);

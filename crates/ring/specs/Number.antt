@@ -3,7 +3,7 @@ use mathlib.Core.Path.{_≡_, refl, sym, _∙_, ap}
 use mathlib.Core.List.{List, [], _∷_}
 use Prim.Native.Nat.{ℕ, _-_, _≤_, _^_}
 use native.Mathlib.Omega.{arith}
-use lib.IntN.{ℤ, pos, negℤ, natAbs, _-ℤ_}
+use lib.IntN.{ℤ, pos, negℤ, _-ℤ_}
 use Rattle.exact.specs.Meaning.Number.{Quad, Ω, ints, quads, power, mulQ, omega′, omega^}
 use Rattle.exact.specs.Whole.Parity.{half}
 use Rattle.exact.specs.Algebra.Ring.{ints-laws}

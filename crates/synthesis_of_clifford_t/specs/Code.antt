@@ -1,27 +1,27 @@
 -- The step in code: what each function on the way hands on, and that the answer is the case of the definition `reduction`. Assumes nothing.
-use mathlib.Core.Path.{_≡_, refl, sym, _∙_, ap, ap₂, subst}
-use mathlib.Core.Bool.{Bool, true, false, _&&_}
-use Prim.Native.Nat.{ℕ, zero, suc, _+_, _-_, _*_, _/_, _%_, _^_, _≤_, _<_}
+use mathlib.Core.Path.{_≡_, sym, _∙_, ap, ap₂}
+use mathlib.Core.Bool.{Bool, true, false}
+use Prim.Native.Nat.{ℕ, zero, suc, _+_, _-_, _/_, _%_, _^_, _≤_, _<_}
 use native.Mathlib.Omega.{arith}
 use lib.Dec.{T}
 use mir.Facts.{and-yes}
-use Rattle.exact.specs.Meaning.Number.{Ω, ints, omegas, addQ, negQ, mulQ, omega′, omega^, odd, bit, residue, Sized}
+use Rattle.exact.specs.Meaning.Number.{Ω, ints, negQ, mulQ, omega′, omega^, odd, bit, residue, Sized}
 use Rattle.exact.specs.Meaning.Word.{H}
 use Rattle.exact.specs.Meaning.Triple.{Triple}
 use Rattle.exact.specs.Meaning.Limits.{deepest}
 use Rattle.exact.specs.Algebra.Omega.{omegas-laws}
-use Rattle.exact.specs.Algebra.Over.{divides, over}
+use Rattle.exact.specs.Algebra.Over.{divides}
 use Rattle.exact.specs.Matrices.Triples.{act}
 use Rattle.exact.specs.Matrices.Least.{lowered, modEight}
 use Rattle.exact.specs.Matrices.Sizes.{z-sized, w-sized, sized-le, add-sized, neg-sized, omega-sized}
-use Rattle.ring.specs.Number.{quad, Small, halves}
+use Rattle.ring.specs.Number.{quad, Small}
 use Rattle.unitary.specs.declared.DOmegaUnitary.{DOmegaUnitary}
 use Rattle.unitary.specs.Triples.{triple}
 use Rattle.unitary.specs.Acts.{Good, Both, turnedBack, halved}
 use Rattle.synthesis_of_clifford_t.specs.declared.Reduction as declared
 use Rattle.synthesis_of_clifford_t.specs.declared.Reduction.the-variants as variants
-use Rattle.synthesis_of_clifford_t.specs.Residues.{back, powerBy, fallsBy}
-use Rattle.synthesis_of_clifford_t.specs.Step.{Ready, Reduction, Ended, Stepped, reduction, power, power-few, falls, next, explicit, fallen, stayed, over-over, falls-once, next-falls, next-stays}
+use Rattle.synthesis_of_clifford_t.specs.Residues.{back}
+use Rattle.synthesis_of_clifford_t.specs.Step.{Ready, Reduction, Ended, Stepped, reduction, power, falls, next, explicit, fallen, over-over, falls-once, next-falls, next-stays}
 use Rattle.synthesis_of_clifford_t.specs.Synthesised.{reduction-stepped}
 
 -- a reduction's answer as the definition has it

@@ -256,10 +256,10 @@ impl DOmegaUnitary {
         let w = self.w;
         let n = self.n;
         let k = self.k;
-        let turned_w = w.mul_by_omega_inv_power(m);
+        let new_w = w.mul_by_omega_inv_power(m);
         DOmegaUnitary {
             z: z,
-            w: turned_w,
+            w: new_w,
             n: (n + (8 - m)) % 8,
             k: k,
         }

@@ -33,16 +33,29 @@ read-word-requires : tie.Need-read-word-requires
 read-word-requires c κs = (blank, omega arith)
 
 write-requires : tie.Need-write-requires
-write-requires c κs = (record { st = run start (lettersOf (now (c .before .before .before .before .before .before .before .before .before .before .args .word))); holds = c .before .before .read-word .ensures }, count-most (c .before .before .read-word .last .0) (c .before .before .read-word .result) (now (c .before .before .before .before .before .before .before .before .before .before .args .word)) (c .before .before .read-word .ensures) (omega arith))
+write-requires c κs =
+    let the-args = c .before .before .before .before .before .before .before .before .before .before .args in
+    let the-read-word = c .before .before .read-word in
+    (record { st = run start (lettersOf (now (the-args .word))); holds = the-read-word .ensures }, count-most (the-read-word .last .0) (the-read-word .result) (now (the-args .word)) (the-read-word .ensures) (omega arith))
 
 returns-2 : tie.Need-returns-2
-returns-2 c = letter (c .before .before .place .given .0 .0) (omega arith) (found (now (c .before .before .before .before .before .before .before .before .args .word)) (c .before .before .before .before .first-outside .result) (c .before .before .place .given .0 .0) (c .before .before .before .before .first-outside .ensures) (c .before .before .place .given .1)) (c .refused2 .ensures) refl
+returns-2 c =
+    let the-place = c .before .before .place in
+    let the-args = c .before .before .before .before .before .before .before .before .args in
+    let the-first-outside = c .before .before .before .before .first-outside in
+    letter (the-place .given .0 .0) (omega arith) (found (now (the-args .word)) (the-first-outside .result) (the-place .given .0 .0) (the-first-outside .ensures) (the-place .given .1)) (c .refused2 .ensures) refl
 
 same-length : tie.Need-same-length
 same-length c = search needs
 
 returns-3 : tie.Need-returns-3
-returns-3 c = answered-by (c .before .before .before .before .before .before .before .before .before .before .before .before .before .args .phase) (now (c .before .before .before .before .before .before .before .before .before .before .before .before .before .args .word)) (c .before .before .before .before .before .read-word .last .0) (c .before .before .before .before .before .read-word .result) (now (c .before .before .before .before .before .before .before .before .before .before .before .before .before .args .buf)) (c .before .before .write .result) (c .before .before .write .last .1 .1 .1 .0) (omega arith) (scanned (now (c .before .before .before .before .before .before .before .before .before .before .before .before .before .args .word)) (c .before .before .before .before .before .before .before .before .before .first-outside .result) (c .before .before .before .before .before .before .before .before .before .first-outside .ensures) (c .before .before .before .before .before .before .before .enum-told .given .1)) (c .before .before .before .before .before .read-word .ensures) (c .before .before .write .ensures)
+returns-3 c =
+    let the-args = c .before .before .before .before .before .before .before .before .before .before .before .before .before .args in
+    let the-read-word = c .before .before .before .before .before .read-word in
+    let the-write = c .before .before .write in
+    let the-first-outside = c .before .before .before .before .before .before .before .before .before .first-outside in
+    let the-enum-told = c .before .before .before .before .before .before .before .enum-told in
+    answered-by (the-args .phase) (now (the-args .word)) (the-read-word .last .0) (the-read-word .result) (now (the-args .buf)) (the-write .result) (the-write .last .1 .1 .1 .0) (c .before .before .before .before .before .before .before .before .before .before .if1 .left) (scanned (now (the-args .word)) (the-first-outside .result) (the-first-outside .ensures) (the-enum-told .given .1)) (the-read-word .ensures) (the-write .ensures)
 
 pub answer-spec : {M : Type 1} → statement M
 answer-spec =

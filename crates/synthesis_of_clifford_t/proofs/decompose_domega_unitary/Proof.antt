@@ -51,16 +51,35 @@ part-write-block-end : tie.Need-part-write-block-end Inv-loop μ-loop
 part-write-block-end c = omega arith
 
 write-block-requires : tie.Need-write-block-requires Inv-loop μ-loop
-write-block-requires c κs = (step-few (c .before .before .before .before .before .before .before .loop .inv) (c .before .before .before .before .before .if1 .taken) (c .before .before .before .before .reduce-denomexp .result) (c .before .before .before .before .reduce-denomexp .ensures) (c .before .before .m .given .0 .0) (c .before .before .m .given .0 .1 .0) (c .before .before .m .given .1), step-room (c .before .before .before .before .before .before .before .loop .inv) (c .before .before .before .before .before .if1 .taken) (c .before .before .before .before .reduce-denomexp .result) (c .before .before .before .before .reduce-denomexp .ensures) (c .before .before .m .given .0 .0) (c .before .before .m .given .0 .1 .0) (c .before .before .m .given .1))
+write-block-requires c κs =
+    let the-loop = c .before .before .before .before .before .before .before .loop in
+    let the-if1 = c .before .before .before .before .before .if1 in
+    let the-reduce-denomexp = c .before .before .before .before .reduce-denomexp in
+    let the-m = c .before .before .m in
+    (step-few (the-loop .inv) (the-if1 .taken) (the-reduce-denomexp .result) (the-reduce-denomexp .ensures) (the-m .given .0 .0) (the-m .given .0 .1 .0) (the-m .given .1), step-room (the-loop .inv) (the-if1 .taken) (the-reduce-denomexp .result) (the-reduce-denomexp .ensures) (the-m .given .0 .0) (the-m .given .0 .1 .0) (the-m .given .1))
 
 add-len : tie.Need-add-len Inv-loop μ-loop
-add-len c = record { fits = omega (arith, writing-len (c .before .before .before .before .before .before .before .before .before .before .loop .inv) .1, c .before .before .write-block .ensures .next, bytes-length (block (c .before .before .before .before .before .m .given .0 .0)), block-length (c .before .before .before .before .before .m .given .0 .0) .1) }
+add-len c =
+    let the-loop = c .before .before .before .before .before .before .before .before .before .before .loop in
+    let the-m = c .before .before .before .before .before .m in
+    record { fits = omega (arith, writing-len (the-loop .inv) .1, c .before .before .write-block .ensures .next, bytes-length (block (the-m .given .0 .0)), block-length (the-m .given .0 .0) .1) }
 
 loop-less : tie.Need-loop-less Inv-loop μ-loop
-loop-less c = step-nearer (c .before .before .before .before .before .before .before .before .before .before .loop .inv) (c .before .before .before .before .before .before .before .before .if1 .taken) (c .before .before .before .before .before .before .before .reduce-denomexp .result) (c .before .before .before .before .before .before .before .reduce-denomexp .ensures) (c .before .before .before .before .before .m .given .0 .0) (c .before .before .before .before .before .m .given .0 .1 .0) (c .before .before .before .before .before .m .given .1)
+loop-less c =
+    let the-loop = c .before .before .before .before .before .before .before .before .before .before .loop in
+    let the-if1 = c .before .before .before .before .before .before .before .before .if1 in
+    let the-reduce-denomexp = c .before .before .before .before .before .before .before .reduce-denomexp in
+    let the-m = c .before .before .before .before .before .m in
+    step-nearer (the-loop .inv) (the-if1 .taken) (the-reduce-denomexp .result) (the-reduce-denomexp .ensures) (the-m .given .0 .0) (the-m .given .0 .1 .0) (the-m .given .1)
 
 loop-again : tie.Need-loop-again Inv-loop μ-loop
-loop-again c = step-writing (c .before .before .before .before .before .before .before .before .before .before .loop .inv) (c .before .before .before .before .before .before .before .before .if1 .taken) (c .before .before .before .before .before .before .before .reduce-denomexp .result) (c .before .before .before .before .before .before .before .reduce-denomexp .ensures) (c .before .before .before .before .before .m .given .0 .0) (c .before .before .before .before .before .m .given .0 .1 .0) (c .before .before .before .before .before .m .given .1) (c .before .before .write-block .last .0) (c .before .before .write-block .result) (c .before .before .write-block .ensures)
+loop-again c =
+    let the-loop = c .before .before .before .before .before .before .before .before .before .before .loop in
+    let the-if1 = c .before .before .before .before .before .before .before .before .if1 in
+    let the-reduce-denomexp = c .before .before .before .before .before .before .before .reduce-denomexp in
+    let the-m = c .before .before .before .before .before .m in
+    let the-write-block = c .before .before .write-block in
+    step-writing (the-loop .inv) (the-if1 .taken) (the-reduce-denomexp .result) (the-reduce-denomexp .ensures) (the-m .given .0 .0) (the-m .given .0 .1 .0) (the-m .given .1) (the-write-block .last .0) (the-write-block .result) (the-write-block .ensures)
 
 sub-write-closing : tie.Need-sub-write-closing Inv-loop μ-loop
 sub-write-closing c = writing-inside (c .before .before .loop .inv)
@@ -72,16 +91,26 @@ part-write-closing-end : tie.Need-part-write-closing-end Inv-loop μ-loop
 part-write-closing-end c = omega arith
 
 write-closing-requires : tie.Need-write-closing-requires Inv-loop μ-loop
-write-closing-requires c κs = (writing-good (c .before .before .before .loop .inv) .0, ((none-left (c .before .before .before .loop .u .k) (c .before .if1 .left)), end-room (c .before .before .before .loop .inv) (none-left (c .before .before .before .loop .u .k) (c .before .if1 .left))))
+write-closing-requires c κs =
+    let the-loop = c .before .before .before .loop in
+    let the-if1 = c .before .if1 in
+    (writing-good (the-loop .inv) .0, ((none-left (the-loop .u .k) (the-if1 .left)), end-room (the-loop .inv) (none-left (the-loop .u .k) (the-if1 .left))))
 
 add-result : tie.Need-add-result Inv-loop μ-loop
-add-result c = record { fits = omega (arith, writing-len (c .before .before .before .before .before .before .loop .inv) .1, c .before .before .write-closing .ensures .next, bytes-length (closing (triple (c .before .before .before .before .before .before .loop .u))), closing-length (triple (c .before .before .before .before .before .before .loop .u)) (c .before .before .before .before .before .before .loop .inv .progress .ready .unitary) (none-left (c .before .before .before .before .before .before .loop .u .k) (c .before .before .before .before .if1 .left))) }
+add-result c =
+    let the-loop = c .before .before .before .before .before .before .loop in
+    let the-if1 = c .before .before .before .before .if1 in
+    record { fits = omega (arith, writing-len (the-loop .inv) .1, c .before .before .write-closing .ensures .next, bytes-length (closing (triple (the-loop .u))), closing-length (triple (the-loop .u)) (the-loop .inv .progress .ready .unitary) (none-left (the-loop .u .k) (the-if1 .left))) }
 
 same-length-2 : tie.Need-same-length-2 Inv-loop μ-loop
 same-length-2 c = writing-same (c .before .before .before .before .before .before .loop .inv) (c .before .before .write-closing .last .0) (c .before .before .write-closing .kept .0)
 
 returns-2 : tie.Need-returns-2 Inv-loop μ-loop
-returns-2 c = end-put (c .before .before .before .before .before .before .loop .inv) (none-left (c .before .before .before .before .before .before .loop .u .k) (c .before .before .before .before .if1 .left)) (c .before .before .write-closing .last .0) (c .before .before .write-closing .result) (c .before .before .write-closing .ensures)
+returns-2 c =
+    let the-loop = c .before .before .before .before .before .before .loop in
+    let the-if1 = c .before .before .before .before .if1 in
+    let the-write-closing = c .before .before .write-closing in
+    end-put (the-loop .inv) (none-left (the-loop .u .k) (the-if1 .left)) (the-write-closing .last .0) (the-write-closing .result) (the-write-closing .ensures)
 
 pub decompose-domega-unitary-spec : {M : Type 1} → statement M
 decompose-domega-unitary-spec =

@@ -1,5 +1,5 @@
 -- `synthesis_of_clifford_t::synthesise` meets its contract: what the check refuses is refused, and the rest is reduced and answered.
-use mathlib.Core.Path.{_≡_, subst}
+use mathlib.Core.Path.{subst}
 use Prim.Native.Nat.{ℕ}
 use lib.IntN.{ℤ}
 use mir.Facts.{toZ-ofZ}
@@ -33,13 +33,22 @@ reduce-denomexp-requires : tie.Need-reduce-denomexp-requires
 reduce-denomexp-requires c κs = let s = c .before .before .before in small-in ((check-taken _ (checked (s .args .k) (s .args .z) (s .args .w) _ (s .fits .k) (c .before .check .ensures)) (c .if1 .left)) .coefficients-in)
 
 answer-requires : tie.Need-answer-requires
-answer-requires c κs = let s = c .before .before .before .before .before in reduced-good (s .args .n) (now (s .args .buf)) (check-taken _ (checked (s .args .k) (s .args .z) (s .args .w) _ (s .fits .k) (c .before .before .before .check .ensures)) (c .before .before .if1 .left)) (c .before .reduce-denomexp .result) (subst (λ (y : ℤ). Answers (given y (s .args .n) (s .args .z) (s .args .w)) (triple (c .before .reduce-denomexp .result))) (toZ-ofZ (s .fits .k)) (c .before .reduce-denomexp .ensures))
+answer-requires c κs =
+    let s = c .before .before .before .before .before in
+    let the-reduce-denomexp = c .before .reduce-denomexp in
+    reduced-good (s .args .n) (now (s .args .buf)) (check-taken _ (checked (s .args .k) (s .args .z) (s .args .w) _ (s .fits .k) (c .before .before .before .check .ensures)) (c .before .before .if1 .left)) (the-reduce-denomexp .result) (subst (λ (y : ℤ). Answers (given y (s .args .n) (s .args .z) (s .args .w)) (triple (the-reduce-denomexp .result))) (toZ-ofZ (s .fits .k)) (the-reduce-denomexp .ensures))
 
 same-length : tie.Need-same-length
 same-length c = search needs
 
 returns-2 : tie.Need-returns-2
-returns-2 c = let s = c .before .before .before .before .before .before .before .before in synthesise-answered (s .args .n) (now (s .args .buf)) (check-taken _ (checked (s .args .k) (s .args .z) (s .args .w) _ (s .fits .k) (c .before .before .before .before .before .before .check .ensures)) (c .before .before .before .before .before .if1 .left)) (c .before .before .before .before .reduce-denomexp .result) (subst (λ (y : ℤ). Answers (given y (s .args .n) (s .args .z) (s .args .w)) (triple (c .before .before .before .before .reduce-denomexp .result))) (toZ-ofZ (s .fits .k)) (c .before .before .before .before .reduce-denomexp .ensures)) (c .before .before .answer .result) (c .before .before .answer .last .1 .0) (c .before .before .answer .ensures)
+returns-2 c =
+    let s = c .before .before .before .before .before .before .before .before in
+    let the-check = c .before .before .before .before .before .before .check in
+    let the-if1 = c .before .before .before .before .before .if1 in
+    let the-reduce-denomexp = c .before .before .before .before .reduce-denomexp in
+    let the-answer = c .before .before .answer in
+    synthesise-answered (s .args .n) (now (s .args .buf)) (check-taken _ (checked (s .args .k) (s .args .z) (s .args .w) _ (s .fits .k) (the-check .ensures)) (the-if1 .left)) (the-reduce-denomexp .result) (subst (λ (y : ℤ). Answers (given y (s .args .n) (s .args .z) (s .args .w)) (triple (the-reduce-denomexp .result))) (toZ-ofZ (s .fits .k)) (the-reduce-denomexp .ensures)) (the-answer .result) (the-answer .last .1 .0) (the-answer .ensures)
 
 pub synthesise-spec : {M : Type 1} → statement M
 synthesise-spec =

@@ -16,13 +16,22 @@ put-times-requires : tie.Need-put-times-requires
 put-times-requires c κs = let s = c .before .before .before .before in omega (arith, closing-size (triple (s .args .t)) (c .before .before .closing-of .result) (c .before .before .closing-of .ensures), s .pre .1 .1)
 
 put-ending-requires : tie.Need-put-ending-requires
-put-ending-requires c κs = let s = c .before .before .before .before .before .before .before .before in omega (arith, closing-size (triple (s .args .t)) (c .before .before .before .before .before .before .closing-of .result) (c .before .before .before .before .before .before .closing-of .ensures), s .pre .1 .1, c .before .before .before .put-times .ensures .next, c .before .before .before .put-times .kept .0, length-replicate {A = ℕ} (c .before .before .before .before .before .before .closing-of .result .tees) 84)
+put-ending-requires c κs =
+    let s = c .before .before .before .before .before .before .before .before in
+    let the-closing-of = c .before .before .before .before .before .before .closing-of in
+    let the-put-times = c .before .before .before .put-times in
+    omega (arith, closing-size (triple (s .args .t)) (the-closing-of .result) (the-closing-of .ensures), s .pre .1 .1, the-put-times .ensures .next, the-put-times .kept .0, length-replicate {A = ℕ} (the-closing-of .result .tees) 84)
 
 same-length : tie.Need-same-length
 same-length c = search needs
 
 returns : tie.Need-returns
-returns c = let s = c .before .before .before .before .before .before .before .before .before .before .before in closing-put (triple (s .args .t)) (c .before .before .before .before .before .before .before .before .before .closing-of .result) (c .before .before .before .before .before .before .before .before .before .closing-of .ensures) (now (s .args .rest)) (c .before .before .before .before .before .before .put-times .last .0) (c .before .before .before .before .before .before .put-times .result) (c .before .before .put-ending .last .0) (c .before .before .put-ending .result) (s .pre .1 .1) (c .before .before .before .before .before .before .put-times .ensures) (c .before .before .put-ending .ensures)
+returns c =
+    let s = c .before .before .before .before .before .before .before .before .before .before .before in
+    let the-closing-of = c .before .before .before .before .before .before .before .before .before .closing-of in
+    let the-put-times = c .before .before .before .before .before .before .put-times in
+    let the-put-ending = c .before .before .put-ending in
+    closing-put (triple (s .args .t)) (the-closing-of .result) (the-closing-of .ensures) (now (s .args .rest)) (the-put-times .last .0) (the-put-times .result) (the-put-ending .last .0) (the-put-ending .result) (s .pre .1 .1) (the-put-times .ensures) (the-put-ending .ensures)
 
 pub write-closing-spec : {M : Type 1} → statement M
 write-closing-spec =

@@ -17,7 +17,11 @@ product-requires : tie.Need-product-requires
 product-requires c κs = (c .before .new .ensures .ranged, c .new2 .ensures .ranged)
 
 returns : tie.Need-returns
-returns c = product-job (c .before .before .new .result) (c .before .new2 .result) (reduced (c .before .before .before .args .a) (c .before .before .before .args .b) (c .before .before .before .args .c) (c .before .before .before .args .d)) (reduced (c .before .before .before .args .e) (c .before .before .before .args .f) (c .before .before .before .args .g) (c .before .before .before .args .h)) (c .product .result) (c .before .before .new .ensures .is ∙ reduced-back (c .before .before .before .args .a) (c .before .before .before .args .b) (c .before .before .before .args .c) (c .before .before .before .args .d) (c .before .before .before .fits .a) (c .before .before .before .fits .b) (c .before .before .before .fits .c) (c .before .before .before .fits .d)) (c .before .new2 .ensures .is ∙ reduced-back (c .before .before .before .args .e) (c .before .before .before .args .f) (c .before .before .before .args .g) (c .before .before .before .args .h) (c .before .before .before .fits .e) (c .before .before .before .fits .f) (c .before .before .before .fits .g) (c .before .before .before .fits .h)) (c .before .before .new .ensures .ranged) (c .before .new2 .ensures .ranged) (c .product .ensures)
+returns c =
+    let the-new = c .before .before .new in
+    let the-args = c .before .before .before .args in
+    let the-fits = c .before .before .before .fits in
+    product-job (the-new .result) (c .before .new2 .result) (reduced (the-args .a) (the-args .b) (the-args .c) (the-args .d)) (reduced (the-args .e) (the-args .f) (the-args .g) (the-args .h)) (c .product .result) (the-new .ensures .is ∙ reduced-back (the-args .a) (the-args .b) (the-args .c) (the-args .d) (the-fits .a) (the-fits .b) (the-fits .c) (the-fits .d)) (c .before .new2 .ensures .is ∙ reduced-back (the-args .e) (the-args .f) (the-args .g) (the-args .h) (the-fits .e) (the-fits .f) (the-fits .g) (the-fits .h)) (the-new .ensures .ranged) (c .before .new2 .ensures .ranged) (c .product .ensures)
 
 pub clifford-product-spec : {M : Type 1} → statement M
 clifford-product-spec = tie.close (tie.spec new-requires new-requires-2 product-requires returns)

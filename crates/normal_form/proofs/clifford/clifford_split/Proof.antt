@@ -14,7 +14,10 @@ decompose-coset-requires : tie.Need-decompose-coset-requires
 decompose-coset-requires c κs = c .new .ensures .ranged
 
 returns : tie.Need-returns
-returns c = split-job (c .before .new .result) (reduced (c .before .before .args .a) (c .before .before .args .b) (c .before .before .args .c) (c .before .before .args .d)) (c .decompose-coset .result) (c .before .new .ensures .is ∙ reduced-back (c .before .before .args .a) (c .before .before .args .b) (c .before .before .args .c) (c .before .before .args .d) (c .before .before .fits .a) (c .before .before .fits .b) (c .before .before .fits .c) (c .before .before .fits .d)) (c .before .new .ensures .ranged) (c .decompose-coset .ensures)
+returns c =
+    let the-args = c .before .before .args in
+    let the-fits = c .before .before .fits in
+    split-job (c .before .new .result) (reduced (the-args .a) (the-args .b) (the-args .c) (the-args .d)) (c .decompose-coset .result) (c .before .new .ensures .is ∙ reduced-back (the-args .a) (the-args .b) (the-args .c) (the-args .d) (the-fits .a) (the-fits .b) (the-fits .c) (the-fits .d)) (c .before .new .ensures .ranged) (c .decompose-coset .ensures)
 
 pub clifford-split-spec : {M : Type 1} → statement M
 clifford-split-spec = tie.close (tie.spec new-requires decompose-coset-requires returns)

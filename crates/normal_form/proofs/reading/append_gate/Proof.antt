@@ -25,16 +25,24 @@ append-t-requires : tie.Need-append-t-requires
 append-t-requires c κs = search needs
 
 returns : tie.Need-returns
-returns c = gate-times (now (c .before .before .args .items)) (c .before .before .args .r) H cliffordH (c .before .before .args .gate) (c .times .result) (ap letterOf (c .before .match .keys1)) (λ st. refl) (c .times .ensures)
+returns c =
+    let the-args = c .before .before .args in
+    gate-times (now (the-args .items)) (the-args .r) H cliffordH (the-args .gate) (c .times .result) (ap letterOf (c .before .match .keys1)) (λ st. refl) (c .times .ensures)
 
 returns-2 : tie.Need-returns-2
-returns-2 c = gate-times (now (c .before .before .args .items)) (c .before .before .args .r) S cliffordS (c .before .before .args .gate) (c .times2 .result) (ap letterOf (c .before .match .keys2)) (λ st. refl) (c .times2 .ensures)
+returns-2 c =
+    let the-args = c .before .before .args in
+    gate-times (now (the-args .items)) (the-args .r) S cliffordS (the-args .gate) (c .times2 .result) (ap letterOf (c .before .match .keys2)) (λ st. refl) (c .times2 .ensures)
 
 returns-3 : tie.Need-returns-3
-returns-3 c = gate-times (now (c .before .before .args .items)) (c .before .before .args .r) X cliffordX (c .before .before .args .gate) (c .times3 .result) (ap letterOf (c .before .match .keys3)) (λ st. refl) (c .times3 .ensures)
+returns-3 c =
+    let the-args = c .before .before .args in
+    gate-times (now (the-args .items)) (the-args .r) X cliffordX (the-args .gate) (c .times3 .result) (ap letterOf (c .before .match .keys3)) (λ st. refl) (c .times3 .ensures)
 
 returns-4 : tie.Need-returns-4
-returns-4 c = gate-times (now (c .before .before .args .items)) (c .before .before .args .r) W cliffordW (c .before .before .args .gate) (c .times4 .result) (ap letterOf (c .before .match .keys4)) (λ st. refl) (c .times4 .ensures)
+returns-4 c =
+    let the-args = c .before .before .args in
+    gate-times (now (the-args .items)) (the-args .r) W cliffordW (the-args .gate) (c .times4 .result) (ap letterOf (c .before .match .keys4)) (λ st. refl) (c .times4 .ensures)
 
 returns-5 : tie.Need-returns-5
 returns-5 c = rw (c .before .before .match .keys5) (c .append-t .ensures)

@@ -12,28 +12,47 @@ enum-told : tie.Need-enum-told
 enum-told c = search needs
 
 cancel-requires : tie.Need-cancel-requires
-cancel-requires c κs = (c .before .before .before .before .before .before .pre .0, (c .before .before .before .before .before .before .pre .1, rest-ranged (now (c .before .before .before .before .before .before .args .items)) (c .before .before .before .before .before .before .args .r) (c .before .before .before .before .decompose-tconj .result) (now (c .before .before .before .before .before .before .args .items)) (c .before .before .before .before .before .before .args .r) (c .before .before .before .before .decompose-tconj .ensures)))
+cancel-requires c κs =
+    let the-pre = c .before .before .before .before .before .before .pre in
+    let the-args = c .before .before .before .before .before .before .args in
+    let the-decompose-tconj = c .before .before .before .before .decompose-tconj in
+    (the-pre .0, (the-pre .1, rest-ranged (now (the-args .items)) (the-args .r) (the-decompose-tconj .result) (now (the-args .items)) (the-args .r) (the-decompose-tconj .ensures)))
 
 enum-told-2 : tie.Need-enum-told-2
 enum-told-2 c = search needs
 
 push-requires : tie.Need-push-requires
-push-requires c κs = (c .before .before .before .before .before .before .pre .1, bytes-few (c .before .before .before .before .before .before .pre .0 .holds) (c .before .before .before .before .before .before .pre .1), c .before .before .before .before .before .before .pre .0 .holds .array .room)
+push-requires c κs =
+    let the-pre = c .before .before .before .before .before .before .pre in
+    (the-pre .1, bytes-few (the-pre .0 .holds) (the-pre .1), the-pre .0 .holds .array .room)
 
 enum-told-3 : tie.Need-enum-told-3
 enum-told-3 c = search needs
 
 push-requires-2 : tie.Need-push-requires-2
-push-requires-2 c κs = (c .before .before .before .before .before .before .pre .1, bytes-few (c .before .before .before .before .before .before .pre .0 .holds) (c .before .before .before .before .before .before .pre .1), c .before .before .before .before .before .before .pre .0 .holds .array .room)
+push-requires-2 c κs =
+    let the-pre = c .before .before .before .before .before .before .pre in
+    (the-pre .1, bytes-few (the-pre .0 .holds) (the-pre .1), the-pre .0 .holds .array .room)
 
 returns : tie.Need-returns
-returns c = tee-I (now (c .before .before .before .before .before .before .before .args .items)) (c .before .before .before .before .before .before .before .args .r) (c .before .before .before .before .before .decompose-tconj .result) (c .cancel .last .0) (c .cancel .result) (c .before .before .before .before .before .decompose-tconj .ensures) (c .before .before .enum-told .given .1) (c .cancel .ensures)
+returns c =
+    let the-args = c .before .before .before .before .before .before .before .args in
+    let the-decompose-tconj = c .before .before .before .before .before .decompose-tconj in
+    tee-I (now (the-args .items)) (the-args .r) (the-decompose-tconj .result) (c .cancel .last .0) (c .cancel .result) (the-decompose-tconj .ensures) (c .before .before .enum-told .given .1) (c .cancel .ensures)
 
 returns-2 : tie.Need-returns-2
-returns-2 c = tee-H (now (c .before .before .before .before .before .before .before .args .items)) (c .before .before .before .before .before .before .before .args .r) (c .before .before .before .before .before .decompose-tconj .result) (c .push .last .0) (c .push .result) (c .before .before .before .before .before .decompose-tconj .ensures) (c .before .before .enum-told2 .given .1) (c .before .before .before .before .before .before .before .pre .1) (c .push .ensures)
+returns-2 c =
+    let the-args = c .before .before .before .before .before .before .before .args in
+    let the-decompose-tconj = c .before .before .before .before .before .decompose-tconj in
+    let the-pre = c .before .before .before .before .before .before .before .pre in
+    tee-H (now (the-args .items)) (the-args .r) (the-decompose-tconj .result) (c .push .last .0) (c .push .result) (the-decompose-tconj .ensures) (c .before .before .enum-told2 .given .1) (the-pre .1) (c .push .ensures)
 
 returns-3 : tie.Need-returns-3
-returns-3 c = tee-SH (now (c .before .before .before .before .before .before .before .args .items)) (c .before .before .before .before .before .before .before .args .r) (c .before .before .before .before .before .decompose-tconj .result) (c .push2 .last .0) (c .push2 .result) (c .before .before .before .before .before .decompose-tconj .ensures) (c .before .before .enum-told3 .given .1) (c .before .before .before .before .before .before .before .pre .1) (c .push2 .ensures)
+returns-3 c =
+    let the-args = c .before .before .before .before .before .before .before .args in
+    let the-decompose-tconj = c .before .before .before .before .before .decompose-tconj in
+    let the-pre = c .before .before .before .before .before .before .before .pre in
+    tee-SH (now (the-args .items)) (the-args .r) (the-decompose-tconj .result) (c .push2 .last .0) (c .push2 .result) (the-decompose-tconj .ensures) (c .before .before .enum-told3 .given .1) (the-pre .1) (c .push2 .ensures)
 
 pub append-t-spec : {M : Type 1} → statement M
 append-t-spec =

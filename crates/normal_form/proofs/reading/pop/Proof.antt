@@ -18,7 +18,9 @@ sub-t9 : tie.Need-sub-t9
 sub-t9 c = search needs
 
 returns : tie.Need-returns
-returns c = pop-by (now (c .before .before .before .args .items)) (c .before .before .before .args .r) (c .before .before .before .args .s) (c .before .before .before .args .tail) (c .before .size .result) (c .before .size .ensures)
+returns c =
+    let the-args = c .before .before .before .args in
+    pop-by (now (the-args .items)) (the-args .r) (the-args .s) (the-args .tail) (c .before .size .result) (c .before .size .ensures)
 
 pub pop-spec : {M : Type 1} → statement M
 pop-spec = tie.close (tie.spec sub-count element-write-items size-requires sub-t9 returns)

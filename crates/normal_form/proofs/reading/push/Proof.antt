@@ -22,7 +22,10 @@ add-t11 : tie.Need-add-t11
 add-t11 c = omega (arith, c .before .size .ensures, syllable-short (c .before .before .before .args .s))
 
 returns : tie.Need-returns
-returns c = push-by (now (c .before .before .before .args .items)) (c .before .before .before .args .r) (c .before .before .before .args .s) (c .before .before .before .args .tail) (c .before .before .code .result) (c .before .size .result) (c .before .before .code .ensures) (c .before .size .ensures)
+returns c =
+    let the-args = c .before .before .before .args in
+    let the-code = c .before .before .code in
+    push-by (now (the-args .items)) (the-args .r) (the-args .s) (the-args .tail) (the-code .result) (c .before .size .result) (the-code .ensures) (c .before .size .ensures)
 
 pub push-spec : {M : Type 1} → statement M
 push-spec =

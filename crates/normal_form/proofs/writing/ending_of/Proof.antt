@@ -24,16 +24,32 @@ wide-requires-3 : tie.Need-wide-requires-3
 wide-requires-3 c κs = search needs
 
 add-one-if-none : tie.Need-add-one-if-none
-add-one-if-none c = omega (arith, split-few (c .before .before .before .before .before .before .before .args .q) (c .before .before .before .before .before .before .decompose-coset .result) (c .before .before .before .before .before .before .before .pre) (c .before .before .before .before .before .before .decompose-coset .ensures), c .before .before .before .before .esses .ensures, c .before .before .before .aitches .ensures, c .before .before .wide .ensures, c .before .wide2 .ensures, c .wide3 .ensures)
+add-one-if-none c =
+    let the-args = c .before .before .before .before .before .before .before .args in
+    let the-decompose-coset = c .before .before .before .before .before .before .decompose-coset in
+    let the-pre = c .before .before .before .before .before .before .before .pre in
+    omega (arith, split-few (the-args .q) (the-decompose-coset .result) (the-pre) (the-decompose-coset .ensures), c .before .before .before .before .esses .ensures, c .before .before .before .aitches .ensures, c .before .before .wide .ensures, c .before .wide2 .ensures, c .wide3 .ensures)
 
 add-one-if-none-2 : tie.Need-add-one-if-none-2
-add-one-if-none-2 c = omega (arith, split-few (c .before .before .before .before .before .before .before .args .q) (c .before .before .before .before .before .before .decompose-coset .result) (c .before .before .before .before .before .before .before .pre) (c .before .before .before .before .before .before .decompose-coset .ensures), c .before .before .before .before .esses .ensures, c .before .before .before .aitches .ensures, c .before .before .wide .ensures, c .before .wide2 .ensures, c .wide3 .ensures)
+add-one-if-none-2 c =
+    let the-args = c .before .before .before .before .before .before .before .args in
+    let the-decompose-coset = c .before .before .before .before .before .before .decompose-coset in
+    let the-pre = c .before .before .before .before .before .before .before .pre in
+    omega (arith, split-few (the-args .q) (the-decompose-coset .result) (the-pre) (the-decompose-coset .ensures), c .before .before .before .before .esses .ensures, c .before .before .before .aitches .ensures, c .before .before .wide .ensures, c .before .wide2 .ensures, c .wide3 .ensures)
 
 add-one-if-none-3 : tie.Need-add-one-if-none-3
-add-one-if-none-3 c = omega (arith, split-few (c .before .before .before .before .before .before .before .args .q) (c .before .before .before .before .before .before .decompose-coset .result) (c .before .before .before .before .before .before .before .pre) (c .before .before .before .before .before .before .decompose-coset .ensures), c .before .before .before .before .esses .ensures, c .before .before .before .aitches .ensures, c .before .before .wide .ensures, c .before .wide2 .ensures, c .wide3 .ensures)
+add-one-if-none-3 c =
+    let the-args = c .before .before .before .before .before .before .before .args in
+    let the-decompose-coset = c .before .before .before .before .before .before .decompose-coset in
+    let the-pre = c .before .before .before .before .before .before .before .pre in
+    omega (arith, split-few (the-args .q) (the-decompose-coset .result) (the-pre) (the-decompose-coset .ensures), c .before .before .before .before .esses .ensures, c .before .before .before .aitches .ensures, c .before .before .wide .ensures, c .before .wide2 .ensures, c .wide3 .ensures)
 
 add-one-if-none-4 : tie.Need-add-one-if-none-4
-add-one-if-none-4 c = omega (arith, split-few (c .before .before .before .before .before .before .before .args .q) (c .before .before .before .before .before .before .decompose-coset .result) (c .before .before .before .before .before .before .before .pre) (c .before .before .before .before .before .before .decompose-coset .ensures), c .before .before .before .before .esses .ensures, c .before .before .before .aitches .ensures, c .before .before .wide .ensures, c .before .wide2 .ensures, c .wide3 .ensures)
+add-one-if-none-4 c =
+    let the-args = c .before .before .before .before .before .before .before .args in
+    let the-decompose-coset = c .before .before .before .before .before .before .decompose-coset in
+    let the-pre = c .before .before .before .before .before .before .before .pre in
+    omega (arith, split-few (the-args .q) (the-decompose-coset .result) (the-pre) (the-decompose-coset .ensures), c .before .before .before .before .esses .ensures, c .before .before .before .aitches .ensures, c .before .before .wide .ensures, c .before .wide2 .ensures, c .wide3 .ensures)
 
 one-if-none-requires : tie.Need-one-if-none-requires
 one-if-none-requires c κs = search needs
@@ -42,7 +58,16 @@ kept-requires : tie.Need-kept-requires
 kept-requires c κs = search needs
 
 returns : tie.Need-returns
-returns c = ended (c .before .before .before .before .before .before .before .before .before .args .phase) (c .before .before .before .before .before .before .before .before .before .args .q) (c .before .before .before .before .before .before .before .before .decompose-coset .result) (c .before .before .before .before .before .before .esses .result) (c .before .before .before .before .before .aitches .result) (c .before .one-if-none .result) (c .before .before .before .before .wide .result) (c .before .before .before .wide2 .result) (c .before .before .wide3 .result) (c .kept .result) (c .before .before .before .before .before .before .before .before .before .pre) (c .before .before .before .before .before .before .before .before .decompose-coset .ensures) (c .before .before .before .before .before .before .esses .ensures) (c .before .before .before .before .before .aitches .ensures) (c .before .before .before .before .wide .ensures) (c .before .before .before .wide2 .ensures) (c .before .before .wide3 .ensures) (c .before .one-if-none .ensures) (c .kept .ensures)
+returns c =
+    let the-args = c .before .before .before .before .before .before .before .before .before .args in
+    let the-decompose-coset = c .before .before .before .before .before .before .before .before .decompose-coset in
+    let the-esses = c .before .before .before .before .before .before .esses in
+    let the-aitches = c .before .before .before .before .before .aitches in
+    let the-wide = c .before .before .before .before .wide in
+    let the-wide2 = c .before .before .before .wide2 in
+    let the-wide3 = c .before .before .wide3 in
+    let the-pre = c .before .before .before .before .before .before .before .before .before .pre in
+    ended (the-args .phase) (the-args .q) (the-decompose-coset .result) (the-esses .result) (the-aitches .result) (c .before .one-if-none .result) (the-wide .result) (the-wide2 .result) (the-wide3 .result) (c .kept .result) (the-pre) (the-decompose-coset .ensures) (the-esses .ensures) (the-aitches .ensures) (the-wide .ensures) (the-wide2 .ensures) (the-wide3 .ensures) (c .before .one-if-none .ensures) (c .kept .ensures)
 
 pub ending-of-spec : {M : Type 1} → statement M
 ending-of-spec =

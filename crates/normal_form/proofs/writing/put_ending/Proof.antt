@@ -10,16 +10,31 @@ put-two-requires : tie.Need-put-two-requires
 put-two-requires c κs = search needs
 
 put-two-requires-2 : tie.Need-put-two-requires-2
-put-two-requires-2 c κs = omega (arith, c .before .before .before .before .before .before .pre, ran-two (now (c .before .before .before .before .before .before .args .buf)) (c .before .before .before .before .before .before .args .at) 83 (c .before .before .before .before .before .before .args .e .first) 72 (c .before .before .before .before .before .before .args .e .h) (c .before .before .before .put-two .last .0) (c .before .before .before .put-two .result) (c .before .before .before .put-two .ensures) (c .before .before .before .put-two .kept .0))
+put-two-requires-2 c κs =
+    let the-pre = c .before .before .before .before .before .before .pre in
+    let the-args = c .before .before .before .before .before .before .args in
+    let the-put-two = c .before .before .before .put-two in
+    omega (arith, the-pre, ran-two (now (the-args .buf)) (the-args .at) 83 (the-args .e .first) 72 (the-args .e .h) (the-put-two .last .0) (the-put-two .result) (the-put-two .ensures) (the-put-two .kept .0))
 
 put-two-requires-3 : tie.Need-put-two-requires-3
-put-two-requires-3 c κs = omega (arith, c .before .before .before .before .before .before .before .before .before .before .pre, ran-two (now (c .before .before .before .before .before .before .before .before .before .before .args .buf)) (c .before .before .before .before .before .before .before .before .before .before .args .at) 83 (c .before .before .before .before .before .before .before .before .before .before .args .e .first) 72 (c .before .before .before .before .before .before .before .before .before .before .args .e .h) (c .before .before .before .before .before .before .before .put-two .last .0) (c .before .before .before .before .before .before .before .put-two .result) (c .before .before .before .before .before .before .before .put-two .ensures) (c .before .before .before .before .before .before .before .put-two .kept .0), ran-two (c .before .before .before .before .before .before .before .put-two .last .0) (c .before .before .before .before .before .before .before .put-two .result) 73 (c .before .before .before .before .before .before .before .before .before .before .args .e .i) 88 (c .before .before .before .before .before .before .before .before .before .before .args .e .x) (c .before .before .before .put-two2 .last .0) (c .before .before .before .put-two2 .result) (c .before .before .before .put-two2 .ensures) (c .before .before .before .put-two2 .kept .0))
+put-two-requires-3 c κs =
+    let the-pre = c .before .before .before .before .before .before .before .before .before .before .pre in
+    let the-args = c .before .before .before .before .before .before .before .before .before .before .args in
+    let the-put-two = c .before .before .before .before .before .before .before .put-two in
+    let the-put-two2 = c .before .before .before .put-two2 in
+    omega (arith, the-pre, ran-two (now (the-args .buf)) (the-args .at) 83 (the-args .e .first) 72 (the-args .e .h) (the-put-two .last .0) (the-put-two .result) (the-put-two .ensures) (the-put-two .kept .0), ran-two (the-put-two .last .0) (the-put-two .result) 73 (the-args .e .i) 88 (the-args .e .x) (the-put-two2 .last .0) (the-put-two2 .result) (the-put-two2 .ensures) (the-put-two2 .kept .0))
 
 same-length : tie.Need-same-length
 same-length c = search needs
 
 returns : tie.Need-returns
-returns c = put-ends (now (c .before .before .before .before .before .before .before .before .before .before .before .before .before .args .buf)) (c .before .before .before .before .before .before .before .before .before .before .before .before .before .args .at) (c .before .before .before .before .before .before .before .before .before .before .before .before .before .args .e) (c .before .before .before .before .before .before .before .before .before .before .put-two .last .0) (c .before .before .before .before .before .before .before .before .before .before .put-two .result) (c .before .before .before .before .before .before .put-two2 .last .0) (c .before .before .before .before .before .before .put-two2 .result) (c .before .before .put-two3 .last .0) (c .before .before .put-two3 .result) (c .before .before .before .before .before .before .before .before .before .before .before .before .before .pre) (c .before .before .before .before .before .before .before .before .before .before .put-two .ensures) (c .before .before .before .before .before .before .put-two2 .ensures) (c .before .before .put-two3 .ensures)
+returns c =
+    let the-args = c .before .before .before .before .before .before .before .before .before .before .before .before .before .args in
+    let the-put-two = c .before .before .before .before .before .before .before .before .before .before .put-two in
+    let the-put-two2 = c .before .before .before .before .before .before .put-two2 in
+    let the-put-two3 = c .before .before .put-two3 in
+    let the-pre = c .before .before .before .before .before .before .before .before .before .before .before .before .before .pre in
+    put-ends (now (the-args .buf)) (the-args .at) (the-args .e) (the-put-two .last .0) (the-put-two .result) (the-put-two2 .last .0) (the-put-two2 .result) (the-put-two3 .last .0) (the-put-two3 .result) (the-pre) (the-put-two .ensures) (the-put-two2 .ensures) (the-put-two3 .ensures)
 
 pub put-ending-spec : {M : Type 1} → statement M
 put-ending-spec =

@@ -27,7 +27,10 @@ put-letter-requires-2 : tie.Need-put-letter-requires-2
 put-letter-requires-2 c κs = omega (arith, ap (λ (s : Syllable). length (syllableWord s)) (c .before .enum-told3 .given .1))
 
 put-letter-requires-3 : tie.Need-put-letter-requires-3
-put-letter-requires-3 c κs = omega (arith, ap (λ (s : Syllable). length (syllableWord s)) (c .before .before .before .before .before .enum-told3 .given .1), c .before .before .before .put-letter2 .ensures .next, c .before .before .before .put-letter2 .kept .0)
+put-letter-requires-3 c κs =
+    let the-enum-told3 = c .before .before .before .before .before .enum-told3 in
+    let the-put-letter2 = c .before .before .before .put-letter2 in
+    omega (arith, ap (λ (s : Syllable). length (syllableWord s)) (the-enum-told3 .given .1), the-put-letter2 .ensures .next, the-put-letter2 .kept .0)
 
 enum-told-4 : tie.Need-enum-told-4
 enum-told-4 c = search needs
@@ -36,10 +39,17 @@ put-letter-requires-4 : tie.Need-put-letter-requires-4
 put-letter-requires-4 c κs = omega (arith, ap (λ (s : Syllable). length (syllableWord s)) (c .before .enum-told4 .given .1))
 
 put-letter-requires-5 : tie.Need-put-letter-requires-5
-put-letter-requires-5 c κs = omega (arith, ap (λ (s : Syllable). length (syllableWord s)) (c .before .before .before .before .before .enum-told4 .given .1), c .before .before .before .put-letter4 .ensures .next, c .before .before .before .put-letter4 .kept .0)
+put-letter-requires-5 c κs =
+    let the-enum-told4 = c .before .before .before .before .before .enum-told4 in
+    let the-put-letter4 = c .before .before .before .put-letter4 in
+    omega (arith, ap (λ (s : Syllable). length (syllableWord s)) (the-enum-told4 .given .1), the-put-letter4 .ensures .next, the-put-letter4 .kept .0)
 
 put-letter-requires-6 : tie.Need-put-letter-requires-6
-put-letter-requires-6 c κs = omega (arith, ap (λ (s : Syllable). length (syllableWord s)) (c .before .before .before .before .before .before .before .before .before .enum-told4 .given .1), c .before .before .before .put-letter5 .ensures .next, c .before .before .before .put-letter5 .kept .0, c .before .before .before .before .before .before .before .put-letter4 .ensures .next, c .before .before .before .before .before .before .before .put-letter4 .kept .0)
+put-letter-requires-6 c κs =
+    let the-enum-told4 = c .before .before .before .before .before .before .before .before .before .enum-told4 in
+    let the-put-letter5 = c .before .before .before .put-letter5 in
+    let the-put-letter4 = c .before .before .before .before .before .before .before .put-letter4 in
+    omega (arith, ap (λ (s : Syllable). length (syllableWord s)) (the-enum-told4 .given .1), the-put-letter5 .ensures .next, the-put-letter5 .kept .0, the-put-letter4 .ensures .next, the-put-letter4 .kept .0)
 
 returns : tie.Need-returns
 returns c = rw (c .enum-told .given .1) (put-none (now (c .before .before .before .args .buf)) (c .before .before .before .args .at))
@@ -54,7 +64,12 @@ same-length-2 : tie.Need-same-length-2
 same-length-2 c = search needs
 
 returns-3 : tie.Need-returns-3
-returns-3 c = rw (c .before .before .before .before .before .before .before .before .enum-told3 .given .1) (put-more (now (c .before .before .before .before .before .before .before .before .before .before .before .args .buf)) (c .before .before .before .before .before .before .before .before .before .before .before .args .at) (72 ∷ []) (c .before .before .before .before .before .before .put-letter2 .last .0) (c .before .before .before .before .before .before .put-letter2 .result) (c .before .before .before .before .before .before .put-letter2 .ensures) (omega (arith, ap (λ (s : Syllable). length (syllableWord s)) (c .before .before .before .before .before .before .before .before .enum-told3 .given .1))) (84 ∷ []) (c .before .before .put-letter3 .last .0) (c .before .before .put-letter3 .result) (c .before .before .put-letter3 .ensures))
+returns-3 c =
+    let the-enum-told3 = c .before .before .before .before .before .before .before .before .enum-told3 in
+    let the-args = c .before .before .before .before .before .before .before .before .before .before .before .args in
+    let the-put-letter2 = c .before .before .before .before .before .before .put-letter2 in
+    let the-put-letter3 = c .before .before .put-letter3 in
+    rw (the-enum-told3 .given .1) (put-more (now (the-args .buf)) (the-args .at) (72 ∷ []) (the-put-letter2 .last .0) (the-put-letter2 .result) (the-put-letter2 .ensures) (omega (arith, ap (λ (s : Syllable). length (syllableWord s)) (the-enum-told3 .given .1))) (84 ∷ []) (the-put-letter3 .last .0) (the-put-letter3 .result) (the-put-letter3 .ensures))
 
 same-length-3 : tie.Need-same-length-3
 same-length-3 c = search needs

@@ -31,7 +31,11 @@ of-requires : tie.Need-of-requires Inv-loop μ-loop
 of-requires c κs = tt
 
 put-syllable-requires : tie.Need-put-syllable-requires Inv-loop μ-loop
-put-syllable-requires c κs = omega (arith, one-room (now (c .before .before .before .before .before .before .args .items)) (now (c .before .before .before .before .before .before .args .buf)) (c .before .before .before .before .loop .k) (c .before .before .before .before .before .before .args .count) (c .before .before .before .before .loop .buf) (c .before .before .before .before .loop .at) (c .before .before .before .loop-test .taken) (c .before .before .before .before .before .before .pre .0) (c .before .before .before .before .before .before .pre .1) (c .before .before .before .before .before .before .pre .2) (c .before .before .before .before .loop .inv .1), ap (λ (s : Syllable). length (syllableWord s)) (c .before .of .ensures))
+put-syllable-requires c κs =
+    let the-args = c .before .before .before .before .before .before .args in
+    let the-loop = c .before .before .before .before .loop in
+    let the-pre = c .before .before .before .before .before .before .pre in
+    omega (arith, one-room (now (the-args .items)) (now (the-args .buf)) (the-loop .k) (the-args .count) (the-loop .buf) (the-loop .at) (c .before .before .before .loop-test .taken) (the-pre .0) (the-pre .1) (the-pre .2) (the-loop .inv .1), ap (λ (s : Syllable). length (syllableWord s)) (c .before .of .ensures))
 
 add-k : tie.Need-add-k Inv-loop μ-loop
 add-k c = omega arith
@@ -40,7 +44,14 @@ loop-less : tie.Need-loop-less Inv-loop μ-loop
 loop-less c = omega arith
 
 loop-again : tie.Need-loop-again Inv-loop μ-loop
-loop-again c = (omega arith, one-more (now (c .before .before .before .before .before .before .before .before .before .args .items)) (now (c .before .before .before .before .before .before .before .before .before .args .buf)) (c .before .before .before .before .before .before .before .loop .k) (c .before .before .before .before .before .before .before .before .before .args .count) (c .before .before .before .before .before .before .before .loop .buf) (c .before .before .before .before .before .before .before .loop .at) (c .before .before .before .before .before .before .loop-test .taken) (c .before .before .before .before .before .before .before .before .before .pre .0) (c .before .before .before .before .before .before .before .before .before .pre .1) (c .before .before .before .before .before .before .before .before .before .pre .2) (c .before .before .before .before .before .before .before .loop .inv .1) (c .before .before .before .before .of .result) (c .before .before .put-syllable .last .0) (c .before .before .put-syllable .result) (c .before .before .before .before .of .ensures) (c .before .before .put-syllable .ensures))
+loop-again c =
+    let the-args = c .before .before .before .before .before .before .before .before .before .args in
+    let the-loop = c .before .before .before .before .before .before .before .loop in
+    let the-loop-test = c .before .before .before .before .before .before .loop-test in
+    let the-pre = c .before .before .before .before .before .before .before .before .before .pre in
+    let the-of = c .before .before .before .before .of in
+    let the-put-syllable = c .before .before .put-syllable in
+    (omega arith, one-more (now (the-args .items)) (now (the-args .buf)) (the-loop .k) (the-args .count) (the-loop .buf) (the-loop .at) (the-loop-test .taken) (the-pre .0) (the-pre .1) (the-pre .2) (the-loop .inv .1) (the-of .result) (the-put-syllable .last .0) (the-put-syllable .result) (the-of .ensures) (the-put-syllable .ensures))
 
 same-length : tie.Need-same-length Inv-loop μ-loop
 same-length c = let l = c .before .loop in let a = c .before .before .before .args in put-length (now (a .buf)) 0 (bytes (codesWord (take (l .k) (now (a .items))))) (l .buf) (l .at) (l .inv .1) (subst (λ (k : ℕ). 0 + length (bytes (codesWord (take k (now (a .items))))) ≤ length (now (a .buf))) (sym (the-end (l .k) (a .count) (l .inv .0) (c .loop-test .left))) (omega (arith, bytes-length (codesWord (take (a .count) (now (a .items)))), c .before .before .before .pre .2)))

@@ -10,13 +10,22 @@ put-times-requires : tie.Need-put-times-requires
 put-times-requires c κs = search needs
 
 put-times-requires-2 : tie.Need-put-times-requires-2
-put-times-requires-2 c κs = omega (arith, c .before .before .before .before .before .before .pre, ran-one (now (c .before .before .before .before .before .before .args .buf)) (c .before .before .before .before .before .before .args .at) (c .before .before .before .before .before .before .args .first) (c .before .before .before .before .before .before .args .m) (c .before .before .before .put-times .last .0) (c .before .before .before .put-times .result) (c .before .before .before .put-times .ensures) (c .before .before .before .put-times .kept .0))
+put-times-requires-2 c κs =
+    let the-pre = c .before .before .before .before .before .before .pre in
+    let the-args = c .before .before .before .before .before .before .args in
+    let the-put-times = c .before .before .before .put-times in
+    omega (arith, the-pre, ran-one (now (the-args .buf)) (the-args .at) (the-args .first) (the-args .m) (the-put-times .last .0) (the-put-times .result) (the-put-times .ensures) (the-put-times .kept .0))
 
 same-length : tie.Need-same-length
 same-length c = search needs
 
 returns : tie.Need-returns
-returns c = two (now (c .before .before .before .before .before .before .before .before .before .args .buf)) (c .before .before .before .before .before .before .before .before .before .args .at) (c .before .before .before .before .before .before .before .before .before .args .first) (c .before .before .before .before .before .before .before .before .before .args .m) (c .before .before .before .before .before .before .before .before .before .args .second) (c .before .before .before .before .before .before .before .before .before .args .n) (c .before .before .before .before .before .before .put-times .last .0) (c .before .before .before .before .before .before .put-times .result) (c .before .before .put-times2 .last .0) (c .before .before .put-times2 .result) (c .before .before .before .before .before .before .before .before .before .pre) (c .before .before .before .before .before .before .put-times .ensures) (c .before .before .put-times2 .ensures)
+returns c =
+    let the-args = c .before .before .before .before .before .before .before .before .before .args in
+    let the-put-times = c .before .before .before .before .before .before .put-times in
+    let the-put-times2 = c .before .before .put-times2 in
+    let the-pre = c .before .before .before .before .before .before .before .before .before .pre in
+    two (now (the-args .buf)) (the-args .at) (the-args .first) (the-args .m) (the-args .second) (the-args .n) (the-put-times .last .0) (the-put-times .result) (the-put-times2 .last .0) (the-put-times2 .result) (the-pre) (the-put-times .ensures) (the-put-times2 .ensures)
 
 pub put-two-spec : {M : Type 1} → statement M
 put-two-spec = tie.close (tie.spec put-times-requires put-times-requires-2 same-length returns)

@@ -15,22 +15,50 @@ size-requires : tie.Need-size-requires
 size-requires c κs = search needs
 
 add-n : tie.Need-add-n
-add-n c = omega (arith, bytes-most (c .before .before .before .before .before .pre .0 .holds) (c .before .before .before .before .before .pre .1), c .before .size .ensures, c .before .before .ending-of .ensures .few)
+add-n c =
+    let the-pre = c .before .before .before .before .before .pre in
+    omega (arith, bytes-most (the-pre .0 .holds) (the-pre .1), c .before .size .ensures, c .before .before .ending-of .ensures .few)
+
+refused-requires : tie.Need-refused-requires
+refused-requires c κs = search needs
 
 returns : tie.Need-returns
-returns c = no-room (c .before .before .before .before .before .before .args .phase) (now (c .before .before .before .before .before .before .args .items)) (c .before .before .before .before .before .before .args .r) (now (c .before .before .before .before .before .before .args .buf)) (c .before .before .before .ending-of .result) (c .before .before .before .ending-of .ensures .is) (c .before .before .size .result) (c .before .before .size .ensures) (c .if1 .taken)
+returns c =
+    let the-args = c .before .before .before .before .before .before .before .args in
+    let the-ending-of = c .before .before .before .before .ending-of in
+    let the-size = c .before .before .before .size in
+    no-room (the-args .phase) (now (the-args .items)) (the-args .r) (now (the-args .buf)) (the-ending-of .result) (the-ending-of .ensures .is) (the-size .result) (c .refused .result) (the-size .ensures) (c .before .if1 .taken) (c .refused .ensures)
 
 put-syllables-requires : tie.Need-put-syllables-requires
-put-syllables-requires c κs = (c .before .before .before .before .before .before .before .pre .0 .holds .array .room, c .before .before .before .before .before .before .before .pre .1, omega (arith, write-room (c .before .before .before .before .before .before .before .args .phase) (now (c .before .before .before .before .before .before .before .args .items)) (c .before .before .before .before .before .before .before .args .r) (now (c .before .before .before .before .before .before .before .args .buf)) (c .before .before .before .before .ending-of .result) (c .before .before .before .before .ending-of .ensures .is) (c .before .before .before .before .before .before .before .pre .0 .st) (c .before .before .before .before .before .before .before .pre .0 .holds) (c .before .before .before .size .result) (c .before .before .before .size .ensures) (c .before .if1 .left), bytes-length (codesWord (take (c .before .before .before .before .before .before .before .args .r .count) (now (c .before .before .before .before .before .before .before .args .items))))))
+put-syllables-requires c κs =
+    let the-pre = c .before .before .before .before .before .before .before .pre in
+    let the-args = c .before .before .before .before .before .before .before .args in
+    let the-ending-of = c .before .before .before .before .ending-of in
+    let the-size = c .before .before .before .size in
+    (the-pre .0 .holds .array .room, the-pre .1, omega (arith, write-room (the-args .phase) (now (the-args .items)) (the-args .r) (now (the-args .buf)) (the-ending-of .result) (the-ending-of .ensures .is) (the-pre .0 .st) (the-pre .0 .holds) (the-size .result) (the-size .ensures) (c .before .if1 .left), bytes-length (codesWord (take (the-args .r .count) (now (the-args .items))))))
 
 put-ending-requires : tie.Need-put-ending-requires
-put-ending-requires c κs = omega (arith, write-room (c .before .before .before .before .before .before .before .before .before .before .before .args .phase) (now (c .before .before .before .before .before .before .before .before .before .before .before .args .items)) (c .before .before .before .before .before .before .before .before .before .before .before .args .r) (now (c .before .before .before .before .before .before .before .before .before .before .before .args .buf)) (c .before .before .before .before .before .before .before .before .ending-of .result) (c .before .before .before .before .before .before .before .before .ending-of .ensures .is) (c .before .before .before .before .before .before .before .before .before .before .before .pre .0 .st) (c .before .before .before .before .before .before .before .before .before .before .before .pre .0 .holds) (c .before .before .before .before .before .before .before .size .result) (c .before .before .before .before .before .before .before .size .ensures) (c .before .before .before .before .before .if1 .left), c .before .before .before .put-syllables .ensures .next, c .before .before .before .put-syllables .kept .0)
+put-ending-requires c κs =
+    let the-args = c .before .before .before .before .before .before .before .before .before .before .before .args in
+    let the-ending-of = c .before .before .before .before .before .before .before .before .ending-of in
+    let the-pre = c .before .before .before .before .before .before .before .before .before .before .before .pre in
+    let the-size = c .before .before .before .before .before .before .before .size in
+    let the-if1 = c .before .before .before .before .before .if1 in
+    let the-put-syllables = c .before .before .before .put-syllables in
+    omega (arith, write-room (the-args .phase) (now (the-args .items)) (the-args .r) (now (the-args .buf)) (the-ending-of .result) (the-ending-of .ensures .is) (the-pre .0 .st) (the-pre .0 .holds) (the-size .result) (the-size .ensures) (the-if1 .left), the-put-syllables .ensures .next, the-put-syllables .kept .0)
 
 same-length : tie.Need-same-length
 same-length c = search needs
 
 returns-2 : tie.Need-returns-2
-returns-2 c = written (c .before .before .before .before .before .before .before .before .before .before .before .before .before .before .args .phase) (now (c .before .before .before .before .before .before .before .before .before .before .before .before .before .before .args .items)) (c .before .before .before .before .before .before .before .before .before .before .before .before .before .before .args .r) (now (c .before .before .before .before .before .before .before .before .before .before .before .before .before .before .args .buf)) (c .before .before .before .before .before .before .before .before .before .before .before .ending-of .result) (c .before .before .before .before .before .before .before .before .before .before .before .ending-of .ensures .is) (c .before .before .before .before .before .before .before .before .before .before .size .result) (c .before .before .before .before .before .before .put-syllables .last .0) (c .before .before .before .before .before .before .put-syllables .result) (c .before .before .put-ending .last .0) (c .before .before .put-ending .result) (c .before .before .before .before .before .before .before .before .before .before .size .ensures) (c .before .before .before .before .before .before .before .before .if1 .left) (c .before .before .before .before .before .before .put-syllables .ensures) (c .before .before .put-ending .ensures)
+returns-2 c =
+    let the-args = c .before .before .before .before .before .before .before .before .before .before .before .before .before .before .args in
+    let the-ending-of = c .before .before .before .before .before .before .before .before .before .before .before .ending-of in
+    let the-size = c .before .before .before .before .before .before .before .before .before .before .size in
+    let the-put-syllables = c .before .before .before .before .before .before .put-syllables in
+    let the-put-ending = c .before .before .put-ending in
+    let the-if1 = c .before .before .before .before .before .before .before .before .if1 in
+    written (the-args .phase) (now (the-args .items)) (the-args .r) (now (the-args .buf)) (the-ending-of .result) (the-ending-of .ensures .is) (the-size .result) (the-put-syllables .last .0) (the-put-syllables .result) (the-put-ending .last .0) (the-put-ending .result) (the-size .ensures) (the-if1 .left) (the-put-syllables .ensures) (the-put-ending .ensures)
 
 pub write-spec : {M : Type 1} → statement M
 write-spec =
@@ -39,6 +67,7 @@ write-spec =
     ending-of-requires
     size-requires
     add-n
+    refused-requires
     returns
     put-syllables-requires
     put-ending-requires

@@ -1,7 +1,7 @@
 -- `ring::ZOmega::halved` meets its contract: each coefficient by what its size allows.
 use Prim.Native.Nat.{_^_}
 use Rattle.exact.specs.Algebra.Omega.{quad-path}
-use Rattle.exact.specs.Whole.Machine.{Code, arg, halved}
+use Rattle.exact.specs.Whole.Machine.{arg, halved}
 use Rattle.ring.specs.Code.{gives₁}
 use Rattle.ring.proofs.ZOmega.halved.Statement.{statement}
 use Rattle.ring.proofs.ZOmega.halved.Tie as tie

@@ -3,7 +3,7 @@ use mathlib.Core.Path.{sym, _∙_}
 use Prim.Native.Nat.{_^_}
 use lib.IntN.{pos}
 use Rattle.exact.specs.Algebra.Omega.{quad-path}
-use Rattle.exact.specs.Whole.Machine.{Code, arg, lit, _∸_}
+use Rattle.exact.specs.Whole.Machine.{arg, lit, _∸_}
 use Rattle.ring.specs.Number.{quad, turned-back}
 use Rattle.ring.specs.Code.{need₁, gives₁}
 use Rattle.ring.proofs.ZOmega.mul_by_omega_inv.Statement.{statement}

@@ -1,5 +1,5 @@
 -- `ring::ZOmega::mul_by_omega_inv_power` meets its contract: by the inverse m times.
-use mathlib.Core.Path.{refl, _∙_, ap}
+use mathlib.Core.Path.{_∙_, ap}
 use native.Mathlib.Omega.{arith}
 use Rattle.exact.specs.Meaning.Number.{ints, mulQ, omega^}
 use Rattle.ring.specs.Number.{quad, small-back, turned-whole, turned-twice, turned-thrice, power-at}

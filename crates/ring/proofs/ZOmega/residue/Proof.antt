@@ -4,7 +4,7 @@ use Prim.Native.Nat.{ℕ, _+_, _*_, _^_}
 use native.Mathlib.Omega.{arith}
 use lib.IntN.{ℤ}
 use Rattle.exact.specs.Meaning.Number.{odd, bit}
-use Rattle.exact.specs.Whole.Machine.{Code, arg}
+use Rattle.exact.specs.Whole.Machine.{arg}
 use Rattle.ring.specs.Code.{gives₁}
 use borrow.Author.Needs.{needs}
 use Rattle.ring.proofs.ZOmega.residue.Statement.{statement}

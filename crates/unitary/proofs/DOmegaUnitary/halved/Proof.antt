@@ -1,5 +1,4 @@
 -- `unitary::DOmegaUnitary::halved` meets its contract: z and w are halved, and k falls by two.
-use mathlib.Core.Path.{_≡_}
 use Prim.Native.Nat.{_-_}
 use borrow.Author.Needs.{needs}
 use Rattle.unitary.proofs.DOmegaUnitary.halved.Statement.{statement}

@@ -1,5 +1,4 @@
 -- `unitary::DOmegaUnitary::mul_by_t_inv_power_from_left` meets its contract: w goes by omega to the power -m, and n with it.
-use mathlib.Core.Path.{_≡_}
 use Prim.Native.Nat.{_+_, _-_, _%_}
 use Rattle.ring.specs.Number.{quad}
 use borrow.Author.Needs.{needs}

@@ -23,10 +23,15 @@ returns : tie.Need-returns
 returns c = split-by (c .before .args .self) 0 (c .match .keys1)
 
 returns-2 : tie.Need-returns-2
-returns-2 c = ap (λ (q : Clifford). record { axis = Axis.H; rest = q }) (c .product .ensures ∙ ap (λ (q : Clifford). mulC q (c .before .before .before .args .self)) (c .before .inverse .ensures)) ∙ split-by (c .before .before .before .args .self) 1 (c .before .before .match .keys2)
+returns-2 c =
+    let the-args = c .before .before .before .args in
+    ap (λ (q : Clifford). record { axis = Axis.H; rest = q }) (c .product .ensures ∙ ap (λ (q : Clifford). mulC q (the-args .self)) (c .before .inverse .ensures)) ∙ split-by (the-args .self) 1 (c .before .before .match .keys2)
 
 returns-3 : tie.Need-returns-3
-returns-3 c = ap (λ (q : Clifford). record { axis = Axis.SH; rest = q }) (c .product2 .ensures ∙ ap (λ (q : Clifford). mulC q (c .before .before .before .args .self)) (c .before .inverse2 .ensures)) ∙ split-last (c .before .before .before .args .self) (c .before .before .match .rest .0 .1) (c .before .before .match .rest .1)
+returns-3 c =
+    let the-args = c .before .before .before .args in
+    let the-match = c .before .before .match in
+    ap (λ (q : Clifford). record { axis = Axis.SH; rest = q }) (c .product2 .ensures ∙ ap (λ (q : Clifford). mulC q (the-args .self)) (c .before .inverse2 .ensures)) ∙ split-last (the-args .self) (the-match .rest .0 .1) (the-match .rest .1)
 
 pub decompose-coset-spec : {M : Type 1} → statement M
 decompose-coset-spec =

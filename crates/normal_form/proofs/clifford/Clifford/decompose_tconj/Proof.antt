@@ -23,7 +23,10 @@ ranged-requires : tie.Need-ranged-requires
 ranged-requires c κs = search needs
 
 returns : tie.Need-returns
-returns c = tconj-by (c .before .before .before .before .before .before .before .before .args .self) (c .ranged .result) (c .before .before .before .before .before .tconj-row .result) (c .before .before .before .before .before .tconj-row .ensures) (c .ranged .ensures)
+returns c =
+    let the-args = c .before .before .before .before .before .before .before .before .args in
+    let the-tconj-row = c .before .before .before .before .before .tconj-row in
+    tconj-by (the-args .self) (c .ranged .result) (the-tconj-row .result) (the-tconj-row .ensures) (c .ranged .ensures)
 
 pub decompose-tconj-spec : {M : Type 1} → statement M
 decompose-tconj-spec =

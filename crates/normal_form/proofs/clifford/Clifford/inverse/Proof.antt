@@ -30,7 +30,10 @@ ranged-requires : tie.Need-ranged-requires
 ranged-requires c κs = search needs
 
 returns : tie.Need-returns
-returns c = c .ranged .ensures ∙ inv-by (c .before .before .before .before .before .before .before .args .self) (c .before .before .before .cinv-row .result) (c .before .before .before .cinv-row .ensures)
+returns c =
+    let the-args = c .before .before .before .before .before .before .before .args in
+    let the-cinv-row = c .before .before .before .cinv-row in
+    c .ranged .ensures ∙ inv-by (the-args .self) (the-cinv-row .result) (the-cinv-row .ensures)
 
 pub inverse-spec : {M : Type 1} → statement M
 inverse-spec =

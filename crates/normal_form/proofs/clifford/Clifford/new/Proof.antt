@@ -17,7 +17,12 @@ rem-euclid-requires-4 : tie.Need-rem-euclid-requires-4
 rem-euclid-requires-4 c κs = search needs
 
 returns : tie.Need-returns
-returns c = reduced-by (c .before .before .before .before .args .a) (c .before .before .before .before .args .b) (c .before .before .before .before .args .c) (c .before .before .before .before .args .d) (c .before .before .before .before .fits .a) (c .before .before .before .before .fits .b) (c .before .before .before .before .fits .c) (c .before .before .before .before .fits .d) (c .before .before .before .rem-euclid .result) (c .before .before .rem-euclid2 .result) (c .before .rem-euclid3 .result) (c .rem-euclid4 .result) (c .before .before .before .rem-euclid .ensures) (c .before .before .rem-euclid2 .ensures) (c .before .rem-euclid3 .ensures) (c .rem-euclid4 .ensures)
+returns c =
+    let the-args = c .before .before .before .before .args in
+    let the-fits = c .before .before .before .before .fits in
+    let the-rem-euclid = c .before .before .before .rem-euclid in
+    let the-rem-euclid2 = c .before .before .rem-euclid2 in
+    reduced-by (the-args .a) (the-args .b) (the-args .c) (the-args .d) (the-fits .a) (the-fits .b) (the-fits .c) (the-fits .d) (the-rem-euclid .result) (the-rem-euclid2 .result) (c .before .rem-euclid3 .result) (c .rem-euclid4 .result) (the-rem-euclid .ensures) (the-rem-euclid2 .ensures) (c .before .rem-euclid3 .ensures) (c .rem-euclid4 .ensures)
 
 pub new-spec : {M : Type 1} → statement M
 new-spec =

@@ -37,22 +37,37 @@ add-ranged-2 : tie.Need-add-ranged-2
 add-ranged-2 c = search needs
 
 add-ranged-3 : tie.Need-add-ranged-3
-add-ranged-3 c = omega (arith, c .before .before .before .before .before .before .conj2-row .ensures .c-few, c .before .before .before .before .before .before .before .before .before .before .before .before .before .pre .1 .c-few)
+add-ranged-3 c =
+    let the-conj2-row = c .before .before .before .before .before .before .conj2-row in
+    let the-pre = c .before .before .before .before .before .before .before .before .before .before .before .before .before .pre in
+    omega (arith, the-conj2-row .ensures .c-few, the-pre .1 .c-few)
 
 add-ranged-4 : tie.Need-add-ranged-4
 add-ranged-4 c = search needs
 
 add-ranged-5 : tie.Need-add-ranged-5
-add-ranged-5 c = omega (arith, c .before .before .before .before .before .before .before .before .before .before .before .before .conj3-row .ensures .ranged .d-few, c .before .before .before .before .before .before .before .before .before .conj2-row .ensures .d-few, c .before .before .before .before .before .before .before .before .before .before .before .before .before .before .before .before .pre .0 .d-few)
+add-ranged-5 c =
+    let the-conj3-row = c .before .before .before .before .before .before .before .before .before .before .before .before .conj3-row in
+    let the-conj2-row = c .before .before .before .before .before .before .before .before .before .conj2-row in
+    let the-pre = c .before .before .before .before .before .before .before .before .before .before .before .before .before .before .before .before .pre in
+    omega (arith, the-conj3-row .ensures .ranged .d-few, the-conj2-row .ensures .d-few, the-pre .0 .d-few)
 
 add-ranged-6 : tie.Need-add-ranged-6
-add-ranged-6 c = omega (arith, c .before .before .before .before .before .before .before .before .before .before .before .before .before .conj3-row .ensures .ranged .d-few, c .before .before .before .before .before .before .before .before .before .before .conj2-row .ensures .d-few, c .before .before .before .before .before .before .before .before .before .before .before .before .before .before .before .before .before .pre .0 .d-few, c .before .before .before .before .before .before .before .before .before .before .before .before .before .before .before .before .before .pre .1 .d-few)
+add-ranged-6 c =
+    let the-conj3-row = c .before .before .before .before .before .before .before .before .before .before .before .before .before .conj3-row in
+    let the-conj2-row = c .before .before .before .before .before .before .before .before .before .before .conj2-row in
+    let the-pre = c .before .before .before .before .before .before .before .before .before .before .before .before .before .before .before .before .before .pre in
+    omega (arith, the-conj3-row .ensures .ranged .d-few, the-conj2-row .ensures .d-few, the-pre .0 .d-few, the-pre .1 .d-few)
 
 ranged-requires : tie.Need-ranged-requires
 ranged-requires c κs = search needs
 
 returns : tie.Need-returns
-returns c = c .ranged .ensures ∙ mul-by (c .before .before .before .before .before .before .before .before .before .before .before .before .before .before .before .before .before .before .args .self) (c .before .before .before .before .before .before .before .before .before .before .before .before .before .before .before .before .before .before .args .rhs) (c .before .before .before .before .before .before .before .before .before .before .before .before .before .before .conj3-row .result) (c .before .before .before .before .before .before .before .before .before .before .before .conj2-row .result) (c .before .before .before .before .before .before .before .before .before .before .before .before .before .before .conj3-row .ensures) (c .before .before .before .before .before .before .before .before .before .before .before .conj2-row .ensures)
+returns c =
+    let the-args = c .before .before .before .before .before .before .before .before .before .before .before .before .before .before .before .before .before .before .args in
+    let the-conj3-row = c .before .before .before .before .before .before .before .before .before .before .before .before .before .before .conj3-row in
+    let the-conj2-row = c .before .before .before .before .before .before .before .before .before .before .before .conj2-row in
+    c .ranged .ensures ∙ mul-by (the-args .self) (the-args .rhs) (the-conj3-row .result) (the-conj2-row .result) (the-conj3-row .ensures) (the-conj2-row .ensures)
 
 pub product-spec : {M : Type 1} → statement M
 product-spec =

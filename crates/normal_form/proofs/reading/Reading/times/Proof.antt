@@ -9,7 +9,9 @@ product-requires : tie.Need-product-requires
 product-requires c κs = search needs
 
 returns : tie.Need-returns
-returns c = ap (λ (q : Clifford). record { count = c .before .before .args .self .count; bytes = c .before .before .args .self .bytes; tail = q }) (c .product .ensures)
+returns c =
+    let the-args = c .before .before .args in
+    ap (λ (q : Clifford). record { count = the-args .self .count; bytes = the-args .self .bytes; tail = q }) (c .product .ensures)
 
 pub times-spec : {M : Type 1} → statement M
 times-spec = tie.close (tie.spec product-requires returns)

@@ -1,0 +1,44 @@
+-- `agreement::agree` meets its contract: the two ways, and the comparison of what they wrote.
+use Rattle.agreement.specs.Agree.{first-there, second-there}
+use borrow.Author.Needs.{needs}
+use Rattle.agreement.proofs.agree.Statement.{statement}
+use Rattle.agreement.proofs.agree.Tie as tie
+use Rattle.agreement.proofs.agree.Reads as reads
+use Rattle.agreement.proofs.agree.Lts as lts
+use Rattle.agreement.proofs.alike.Reads as alike-reads
+use Rattle.agreement.proofs.second_way.Reads as second-way-reads
+use Rattle.normal_form.proofs.normalise.Reads as normalise-reads
+use Rattle.unitary.proofs.from_gates.Reads as from-gates-reads
+
+normalise-requires : tie.Need-normalise-requires
+normalise-requires c κs = search needs
+
+from-gates-requires : tie.Need-from-gates-requires
+from-gates-requires c κs = search needs
+
+second-way-requires : tie.Need-second-way-requires
+second-way-requires c κs = search needs
+
+alike-requires : tie.Need-alike-requires
+alike-requires c κs = (first-there (c .before .before .before .before .before .before .before .before .before .normalise .ensures), second-there (c .before .before .before .before .second-way .ensures))
+
+same-length : tie.Need-same-length
+same-length c = search needs
+
+same-length-2 : tie.Need-same-length-2
+same-length-2 c = search needs
+
+returns : tie.Need-returns
+returns c = search needs
+
+pub agree-spec : {M : Type 1} → statement M
+agree-spec =
+    tie.close
+    (tie.spec
+    normalise-requires
+    from-gates-requires
+    second-way-requires
+    alike-requires
+    same-length
+    same-length-2
+    returns)
