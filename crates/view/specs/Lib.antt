@@ -4,3 +4,4 @@ pub mod Size
 pub mod Tied
 pub mod Unique
 pub mod Cases
+pub mod Useless
