@@ -38,31 +38,24 @@ module _ (c : tie.After-synthesise) where
   short : c .synthesise .result .bytes ≤ enough
   short = bench-short (numbers (start .args .r)) (start .args .word .now) (start .pre .0) (c .synthesise .result) (c .synthesise .last .1 .1 .1 .1 .0) outcome
 
--- src/lib.rt:258:9
 synthesise-requires : tie.Need-synthesise-requires
 synthesise-requires c κs = search needs
 
--- src/lib.rt:260:35
 slice-reshare-prefix-write : tie.Need-slice-reshare-prefix-write
 slice-reshare-prefix-write c = there (c .before .before)
 
--- src/lib.rt:260:35
 slice-aggregate-write : tie.Need-slice-aggregate-write
 slice-aggregate-write c = taken (c .before .before .before)
 
--- src/lib.rt:260:5
 write-requires : tie.Need-write-requires
 write-requires c κs = (omega (arith, taken (c .before .before .before .before), short (c .before .before .before .before)), c .before .before .before .before .before .before .before .before .before .before .before .pre .1)
 
--- src/lib.rt:242:1
 same-length : tie.Need-same-length
 same-length c = search needs
 
--- src/lib.rt:242:1
 same-length-2 : tie.Need-same-length-2
 same-length-2 c = search needs
 
--- src/lib.rt:242:1
 returns : tie.Need-returns
 returns c =
     let b = c .before .before .before .before .before .before .before in

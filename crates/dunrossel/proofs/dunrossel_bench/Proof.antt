@@ -10,33 +10,26 @@ use Rattle.dunrossel.proofs.answer_record.Reads as answer-record-reads
 use Rattle.record.proofs.read.Reads as read-reads
 use Rattle.record.proofs.write.Reads as write-reads
 
--- src/lib.rt:267:9
 read-requires : tie.Need-read-requires
 read-requires c κs = search needs
 
--- src/lib.rt:269:41
 slice-aggregate-write : tie.Need-slice-aggregate-write
 slice-aggregate-write c = search needs
 
--- src/lib.rt:269:9
 write-requires : tie.Need-write-requires
 write-requires c κs = search needs
 
--- src/lib.rt:269:9
 returns : tie.Need-returns
 returns c =
     let b = c .before .before .before .before .before in
     bench-malformed (now (b .before .before .args .text)) (now (b .before .before .args .out)) (b .read .result) (c .write .result) (c .write .last .1 .1 .1 .0) (b .read .ensures) (c .before .before .before .if1 .taken) (c .write .ensures)
 
--- src/lib.rt:272:22
 slice-aggregate-answer-record : tie.Need-slice-aggregate-answer-record
 slice-aggregate-answer-record c = search needs
 
--- src/lib.rt:272:5
 answer-record-requires : tie.Need-answer-record-requires
 answer-record-requires c κs = search needs
 
--- src/lib.rt:263:1
 returns-2 : tie.Need-returns-2
 returns-2 c =
     let b = c .before .before .before .before .before .before in

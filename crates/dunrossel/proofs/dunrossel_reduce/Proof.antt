@@ -12,23 +12,18 @@ use Rattle.dunrossel.proofs.w_of.Reads as w-of-reads
 use Rattle.dunrossel.proofs.z_of.Reads as z-of-reads
 use Rattle.unitary.proofs.reduce.Reads as reduce-reads
 
--- src/lib.rt:62:9
 z-of-requires : tie.Need-z-of-requires
 z-of-requires c κs = search needs
 
--- src/lib.rt:63:9
 w-of-requires : tie.Need-w-of-requires
 w-of-requires c κs = search needs
 
--- src/lib.rt:64:9
 reduce-requires : tie.Need-reduce-requires
 reduce-requires c κs = search needs
 
--- src/lib.rt:66:5
 put-ten-requires : tie.Need-put-ten-requires
 put-ten-requires c κs = search needs
 
--- src/lib.rt:58:1
 returns : tie.Need-returns
 returns c =
     let s = c .before .before .before .before .before .before in

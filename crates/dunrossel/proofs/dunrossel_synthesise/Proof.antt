@@ -12,27 +12,21 @@ use Rattle.dunrossel.proofs.w_of.Reads as w-of-reads
 use Rattle.dunrossel.proofs.z_of.Reads as z-of-reads
 use Rattle.synthesis_of_clifford_t.proofs.synthesise.Reads as synthesise-reads
 
--- src/lib.rt:231:9
 z-of-requires : tie.Need-z-of-requires
 z-of-requires c κs = search needs
 
--- src/lib.rt:232:9
 w-of-requires : tie.Need-w-of-requires
 w-of-requires c κs = search needs
 
--- src/lib.rt:233:9
 synthesise-requires : tie.Need-synthesise-requires
 synthesise-requires c κs = search needs
 
--- src/lib.rt:234:5
 put-synthesis-requires : tie.Need-put-synthesis-requires
 put-synthesis-requires c κs = search needs
 
--- src/lib.rt:227:1
 same-length : tie.Need-same-length
 same-length c = search needs
 
--- src/lib.rt:227:1
 returns : tie.Need-returns
 returns c =
     let b = c .before .before .before .before in
