@@ -97,7 +97,7 @@ module _ (u : List Letter) (w : Within u) where
   job-3 old r new h (Job3.answered x v l z a b) = go b
     where
       same : Same (word v) (word u)
-      same = Same-sym (subst (λ (y : List Letter). Same (word y) (word v)) (bytes-inj x u (z .is)) (a .same))
+      same = Same-sym (subst (λ (y : List Letter). Same (word y) (word v)) (bytes-inj x u (z .spelled)) (a .same))
 
       go : Job3.Answered v old r new → Normalised old r new
       go (Job3.room m e f) = absurd (omega (arith, room-enough v (a .normal) same))

@@ -5,3 +5,4 @@ pub mod Cliffords
 pub mod Views
 pub mod Synthesis
 pub mod Bench
+pub mod Unique

@@ -8,7 +8,7 @@ use native.Mathlib.Numerals.{add-one}
 use native.Mathlib.Omega.{arith}
 use lib.ListN.{length, take, drop, getD, replicate, length-append, length-replicate}
 use lib.Seq.{take-suc, take-add, take-length}
-use Rattle.exact.specs.Meaning.Word.{Letter, I, H, S, X, W, byte, bytes, tees}
+use Rattle.exact.specs.Meaning.Word.{Letter, I, H, S, X, W, byte, bytes, tees, job3, FirstOutside}
 use Rattle.exact.specs.Meaning.Normal as normal
 use Rattle.exact.specs.Meaning.Normal.{times}
 use Rattle.exact.specs.Meaning.Limits.{Accepted, Room}
@@ -24,7 +24,7 @@ use Rattle.normal_form.specs.declared.writing.Ending.{Ending}
 use Rattle.normal_form.specs.Cliffords.{splitC}
 use Rattle.normal_form.specs.Readings.{State, syllable, prefix, prefix-tees, start, run, shape, spelled, normal, normal-of}
 use Rattle.normal_form.specs.Held.{syllableNumber, syllableWord, syllableOf, named, codes, Holds, count-is, count-few}
-use Rattle.normal_form.specs.Outcome.{Normalises, Shortens, Outside, Outcome, answered, Answered, room, accepted, handed, refused}
+use Rattle.normal_form.specs.Outcome.{Normalises, Shortens, Outcome, answered, Answered, room, accepted, handed, refused}
 use Rattle.normal_form.specs.Letters.{Inside, Scanned, spells}
 use Rattle.normal_form.specs.Put.{Put, put-more, put-length}
 use Rattle.normal_form.specs.Endings.{endWord, endSize, endingOf, end-length, end-tees, end-whole, textOf, text-less}
@@ -228,7 +228,7 @@ answered-by phase w items r old n new l f h p =
 pub scanned : (w : List ℕ) (r : Letters) → Scanned w r → r ≡ Letters.Known → Inside w (length w)
 scanned w r s e = subst (Scanned w) e s
 
-pub found : (w : List ℕ) (r : Letters) (p : ℕ) → Scanned w r → r ≡ Letters.Outside p → Outside w p
+pub found : (w : List ℕ) (r : Letters) (p : ℕ) → Scanned w r → r ≡ Letters.Outside p → FirstOutside job3 w p
 found w r p s e = subst (Scanned w) e s
 
 pub count-most : (items : List ℕ) (r : Reading) (w : List ℕ) → Holds items r (run start (lettersOf w)) → length w ≤ 4096 → r .count ≤ 4096

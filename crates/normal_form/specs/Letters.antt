@@ -7,11 +7,10 @@ use native.Mathlib.Omega.{arith}
 use lib.Dec.{T, eqb}
 use lib.ListN.{length, getD}
 use borrow.Author.Tests.{eqb-true, eqb-false, ne-eqb}
-use Rattle.exact.specs.Meaning.Word.{Letter, I, H, S, X, W, T′, byte, bytes, job3, In}
+use Rattle.exact.specs.Meaning.Word.{Letter, I, H, S, X, W, T′, byte, bytes, job3, In, FirstOutside, Spells}
 use Rattle.exact.specs.Cases.Letters.{letterOf, letterOf-byte, lettersOf}
 use Rattle.normal_form.specs.declared.Letters.{Letters}
 use Rattle.normal_form.specs.declared.Letters.the-variants as Letters
-use Rattle.normal_form.specs.Outcome.{Outside, Spells}
 
 abbrev pub known : ℕ → Bool
 known b = job3 (letterOf b)
@@ -59,7 +58,7 @@ Inside w n = (i : ℕ) → i < n → In job3 (getD w i 0)
 
 abbrev pub Scanned : List ℕ → Letters → Type 0
 Scanned w Letters.Known = Inside w (length w)
-Scanned w (Letters.Outside p) = Outside w p
+Scanned w (Letters.Outside p) = FirstOutside job3 w p
 
 pub inside-none : (w : List ℕ) → Inside w 0
 inside-none w = λ i h. absurd (omega arith)
@@ -75,5 +74,5 @@ bytes-back : (w : List ℕ) → Inside w (length w) → bytes (lettersOf w) ≡ 
 bytes-back [] f = refl
 bytes-back (b ∷ w) f = ap₂ _∷_ (byte-back b (in-known b (f 0 (omega arith)))) (bytes-back w (λ i h. f (suc i) (omega arith)))
 
-pub spells : (w : List ℕ) → Inside w (length w) → Spells (lettersOf w) w
-spells w f = record { is = bytes-back w f; inside = f }
+pub spells : (w : List ℕ) → Inside w (length w) → Spells job3 w (lettersOf w)
+spells w f = record { spelled = bytes-back w f; inside = f }

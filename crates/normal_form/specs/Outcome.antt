@@ -9,7 +9,7 @@ use lib.Dec.{eqb, ltb}
 use lib.ListN.{length, drop, getD}
 use borrow.Author.Tests.{eqb-true, eqb-false, ltb-true, ltb-false}
 use Rattle.exact.specs.Meaning.Matrix.{Same}
-use Rattle.exact.specs.Meaning.Word.{Letter as Gate, word, tees, bytes, job3, In}
+use Rattle.exact.specs.Meaning.Word.{Letter as Gate, word, tees, bytes, job3, FirstOutside, Spells}
 use Rattle.exact.specs.Meaning.Normal.{Normal, PhaseFree}
 use Rattle.exact.specs.Meaning.Limits.{longest, Accepted, Long, Letter, Room}
 use Rattle.exact.specs.Matrices.Same.{Same-sym, Same-trans}
@@ -36,17 +36,6 @@ handed n p l t = record { refusal = n; place = p; bytes = l; tees = t }
 abbrev pub refused : ℕ → ℕ → Written
 refused n p = handed n p 0 0
 
--- the first byte that is no letter of job 3
-pub record Outside (w : List ℕ) (p : ℕ) : Type 0 where
-  pub there : p < length w
-  pub outside : In job3 (getD w p 0) → ⊥
-  pub earlier : (i : ℕ) → i < p → In job3 (getD w i 0)
-
--- the bytes of a word of letters of job 3
-pub record Spells (u : List Gate) (w : List ℕ) : Type 0 where
-  pub is : bytes u ≡ w
-  pub inside : (i : ℕ) → i < length w → In job3 (getD w i 0)
-
 -- the answer v, and the lent bytes before and after
 pub data Answered (v : List Gate) (old : List ℕ) (r : Written) (new : List ℕ) : Type 0 where
   room : length old < length v → r ≡ refused Room 0 → new ≡ old → Answered v old r new
@@ -54,8 +43,8 @@ pub data Answered (v : List Gate) (old : List ℕ) (r : Written) (new : List ℕ
 
 pub data Outcome (Answer : List Gate → List Gate → Type 0) (w old : List ℕ) (r : Written) (new : List ℕ) : Type 0 where
   long : longest < length w → r ≡ refused Long 0 → new ≡ old → Outcome Answer w old r new
-  letter : (p : ℕ) → length w ≤ longest → Outside w p → r ≡ refused Letter p → new ≡ old → Outcome Answer w old r new
-  answered : (u v : List Gate) → length w ≤ longest → Spells u w → Answer u v → Answered v old r new → Outcome Answer w old r new
+  letter : (p : ℕ) → length w ≤ longest → FirstOutside job3 w p → r ≡ refused Letter p → new ≡ old → Outcome Answer w old r new
+  answered : (u v : List Gate) → length w ≤ longest → Spells job3 w u → Answer u v → Answered v old r new → Outcome Answer w old r new
 
 -- ---- an answer is the only one
 pub record Single (Answer : List Gate → List Gate → Type 0) : Type 0 where
@@ -81,12 +70,12 @@ pub record Equal (r : Written) (new : List ℕ) (r′ : Written) (new′ : List 
 both : {r r′ x : Written} {new new′ y : List ℕ} → r ≡ x → r′ ≡ x → new ≡ y → new′ ≡ y → Equal r new r′ new′
 both e f g h = record { handed-same = e ∙ sym f; bytes-same = g ∙ sym h }
 
-one-place : (w : List ℕ) (p q : ℕ) → Outside w p → Outside w q → p ≡ q
+one-place : (w : List ℕ) (p q : ℕ) → FirstOutside job3 w p → FirstOutside job3 w q → p ≡ q
 one-place w p q h k = at (ltb p q) (ltb q p) refl refl
   where
     at : (a b : Bool) → ltb p q ≡ a → ltb q p ≡ b → p ≡ q
-    at true b e f = absurd (h .outside (k .earlier p (ltb-true p q e)))
-    at false true e f = absurd (k .outside (h .earlier q (ltb-true q p f)))
+    at true b e f = absurd (h .outside (k .before p (ltb-true p q e)))
+    at false true e f = absurd (k .outside (h .before q (ltb-true q p f)))
     at false false e f = omega (arith, ltb-false p q e, ltb-false q p f)
 
 same-answer : (v : List Gate) (old : List ℕ) (r : Written) (new : List ℕ) (r′ : Written) (new′ : List ℕ) → Answered v old r new → Answered v old r′ new′ → Equal r new r′ new′
@@ -108,4 +97,4 @@ outcome-unique {Answer} s w old r new r′ new′ (answered u v l z a b) (answer
     same-answer v old r new r′ new′ b (subst (λ (x : List Gate). Answered x old r′ new′) (sym same) b′)
   where
     same : v ≡ v′
-    same = s .single u v v′ a (subst (λ (x : List Gate). Answer x v′) (bytes-inj u′ u (z′ .is ∙ sym (z .is))) a′)
+    same = s .single u v v′ a (subst (λ (x : List Gate). Answer x v′) (bytes-inj u′ u (z′ .spelled ∙ sym (z .spelled))) a′)

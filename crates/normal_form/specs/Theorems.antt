@@ -9,7 +9,7 @@ use lib.Dec.{T, leb, leb→le}
 use lib.ListN.{length, getD, drop}
 use mir.Facts.{and-yes}
 use Rattle.exact.specs.Meaning.Matrix.{Same}
-use Rattle.exact.specs.Meaning.Word.{Letter, I, H, S, X, W, T′, word, tees, byte, bytes, job3, In}
+use Rattle.exact.specs.Meaning.Word.{Letter, I, H, S, X, W, T′, word, tees, byte, bytes, job3, In, Spells}
 use Rattle.exact.specs.Meaning.Normal.{Normal, times, lessFinalW}
 use Rattle.exact.specs.Meaning.Limits.{longest, Accepted}
 use Rattle.exact.specs.Matrices.Test.{sameTest, same-by}
@@ -18,7 +18,7 @@ use Rattle.exact.specs.Cases.Letters.{bytes-inj}
 use Rattle.exact.specs.Cases.NormalTest.{normalTest, normal-by}
 use Rattle.exact.specs.Cases.Table.{Row, Each, cases, Normalised, all-cases}
 use Rattle.normal_form.specs.declared.Written.{Written}
-use Rattle.normal_form.specs.Outcome.{Normalises, Shortens, handed, Spells, Answered, room, accepted, Outcome, long, letter, answered, normalises-single, shortens-single, Equal, outcome-unique}
+use Rattle.normal_form.specs.Outcome.{Normalises, Shortens, handed, Answered, room, accepted, Outcome, long, letter, answered, normalises-single, shortens-single, Equal, outcome-unique}
 use Rattle.normal_form.specs.Readings.{start, run}
 use Rattle.normal_form.specs.Endings.{textOf}
 use Rattle.normal_form.specs.Answers.{answers, bytes-length}
@@ -47,15 +47,15 @@ fewest u v old r new a (accepted l e f) = rw e (normal-fewest u (a .same) (a .no
 pub never-adds : (u : List Letter) (old : List ℕ) (r : Written) (new : List ℕ) → Outcome Normalises (bytes u) old r new → r .tees ≤ tees u
 never-adds u old r new (long l e f) = rw e (omega arith)
 never-adds u old r new (letter p l o e f) = rw e (omega arith)
-never-adds u old r new (answered u′ v l z a b) = subst (λ (x : List Letter). r .tees ≤ tees x) (bytes-inj u′ u (z .is)) (fewest u′ v old r new a b)
+never-adds u old r new (answered u′ v l z a b) = subst (λ (x : List Letter). r .tees ≤ tees x) (bytes-inj u′ u (z .spelled)) (fewest u′ v old r new a b)
 
 -- ---- words of job 3's letters, by a test
 abbrev pub allowed : List Letter → Bool
 allowed [] = true
 allowed (l ∷ u) = job3 l && allowed u
 
-pub spells-by : (u : List Letter) → T (allowed u) → Spells u (bytes u)
-spells-by u t = record { is = refl; inside = go u t }
+pub spells-by : (u : List Letter) → T (allowed u) → Spells job3 (bytes u) u
+spells-by u t = record { spelled = refl; inside = go u t }
   where
     go : (u : List Letter) → T (allowed u) → (i : ℕ) → i < length (bytes u) → In job3 (getD (bytes u) i 0)
     go [] t i h = absurd (omega arith)

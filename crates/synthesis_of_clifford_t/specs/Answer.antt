@@ -75,7 +75,7 @@ module _ (t : Triple) (ready : Ready t) (few : t .k ≤ deepest) (old : List ℕ
       record {
         normal-word = v;
         normal = a .normal;
-        same = Same-trans (Same-sym (a .same)) (subst (λ (x : List Letter). Same (word x) (entries t)) (sym (bytes-inj u (letters t) (s .is))) (letters-same t ready));
+        same = Same-trans (Same-sym (a .same)) (subst (λ (x : List Letter). Same (word x) (entries t)) (sym (bytes-inj u (letters t) (s .spelled))) (letters-same t ready));
         answered = same-answer v old r new b;
       }
 

@@ -25,7 +25,7 @@ is-letter-requires : tie.Need-is-letter-requires Inv-loop μ-loop
 is-letter-requires c κs = tt
 
 returns : tie.Need-returns Inv-loop μ-loop
-returns c = let l = c .before .before .before .before .loop in let w = now (c .before .before .before .before .before .before .args .word) in record { there = c .before .before .before .loop-test .taken; outside = unknown-out (getD w (l .i) 0) (sym (c .before .is-letter .ensures) ∙ not-true _ (c .if1 .taken)); earlier = l .inv .1 }
+returns c = let l = c .before .before .before .before .loop in let w = now (c .before .before .before .before .before .before .args .word) in record { there = c .before .before .before .loop-test .taken; outside = unknown-out (getD w (l .i) 0) (sym (c .before .is-letter .ensures) ∙ not-true _ (c .if1 .taken)); before = l .inv .1 }
 
 add-i : tie.Need-add-i Inv-loop μ-loop
 add-i c = omega arith
