@@ -14,8 +14,8 @@ use Rattle.exact.specs.Meaning.Normal.{times}
 use Rattle.exact.specs.Meaning.Limits.{Accepted, Room}
 use Rattle.exact.specs.Cases.Letters.{lettersOf}
 use Rattle.exact.specs.Unique.Tails.{tees-append}
-use Rattle.normal_form.specs.declared.Letters.{Letters}
-use Rattle.normal_form.specs.declared.Letters.the-variants as Letters
+use Rattle.normal_form.specs.declared.reading.Read.{Read}
+use Rattle.normal_form.specs.declared.reading.Read.the-variants as Read
 use Rattle.normal_form.specs.declared.Written.{Written}
 use Rattle.normal_form.specs.declared.clifford.Clifford.{Clifford}
 use Rattle.normal_form.specs.declared.reading.Reading.{Reading}
@@ -23,9 +23,11 @@ use Rattle.normal_form.specs.declared.reading.Syllable.{Syllable}
 use Rattle.normal_form.specs.declared.writing.Ending.{Ending}
 use Rattle.normal_form.specs.Cliffords.{splitC}
 use Rattle.normal_form.specs.Readings.{State, syllable, prefix, prefix-tees, start, run, shape, spelled, normal, normal-of}
-use Rattle.normal_form.specs.Held.{syllableNumber, syllableWord, syllableOf, named, codes, Holds, count-is, count-few}
+use Rattle.normal_form.specs.Held.{codes, Holds, count-is, count-few}
+use Rattle.normal_form.specs.Steps.{tailOf}
+use Rattle.normal_form.specs.Syllables.{syllableNumber, syllableWord, syllableOf, named}
 use Rattle.normal_form.specs.Outcome.{Normalises, Shortens, Outcome, answered, Answered, room, accepted, handed, refused}
-use Rattle.normal_form.specs.Letters.{Inside, Scanned, spells}
+use Rattle.normal_form.specs.Letters.{Inside, Reads, spells}
 use Rattle.normal_form.specs.Put.{Put, put-more, put-length}
 use Rattle.normal_form.specs.Endings.{endWord, endSize, endingOf, end-length, end-tees, end-whole, textOf, text-less}
 
@@ -104,7 +106,7 @@ bytes-length (l ∷ u) = ap suc (bytes-length u)
 pub record Writes (phase : Bool) (items : List ℕ) (r : Reading) (old : List ℕ) (n : Written) (new : List ℕ) : Type 0 where
   pub writes : (st : State) → Holds items r st → Answered (textOf phase st) old n new
 
-module _ (phase : Bool) (items : List ℕ) (r : Reading) (old : List ℕ) (e : Ending) (k : e ≡ endingOf phase (r .tail)) where
+module _ (phase : Bool) (items : List ℕ) (r : Reading) (old : List ℕ) (e : Ending) (k : e ≡ endingOf phase (tailOf (r .tail))) where
   end-is : {st : State} → Holds items r st → e ≡ endingOf phase (st .q)
   end-is h = k ∙ ap (endingOf phase) (h .tail-is)
 
@@ -141,7 +143,7 @@ module _ (phase : Bool) (items : List ℕ) (r : Reading) (old : List ℕ) (e : E
           (omega (arith, count-is h, tees-append (prefix (st .lead) (st .stack)) (endWord (endingOf phase (st .q))), prefix-tees (st .lead) (st .stack), end-tees (endingOf phase (st .q))))
 
 -- ---- the loop over the syllables
-module _ (items old : List ℕ) (k n : ℕ) (buf : List ℕ) (at : ℕ) (l : k < n) (h : length items ≡ 4096) (m : n ≤ 4096) (e : length (codesWord (take n items)) ≤ length old) (p : Put old 0 (bytes (codesWord (take k items))) buf at) where
+module _ (items old : List ℕ) (k n : ℕ) (buf : List ℕ) (at : ℕ) (l : k < n) (m : n ≤ length items) (e : length (codesWord (take n items)) ≤ length old) (p : Put old 0 (bytes (codesWord (take k items))) buf at) where
   front-room : length (bytes (codesWord (take k items))) + length (syllableWord (syllableOf (getD items k 0))) ≤ length old
   front-room = omega (arith, bytes-length (codesWord (take k items)), codes-room items k n l (omega arith))
 
@@ -225,11 +227,11 @@ pub answered-by : (phase : Bool) (w items : List ℕ) (r : Reading) (old : List 
 answered-by phase w items r old n new l f h p =
     answered (lettersOf w) (textOf phase (run start (lettersOf w))) l (spells w f) (answers phase (lettersOf w)) (p .writes (run start (lettersOf w)) h)
 
-pub scanned : (w : List ℕ) (r : Letters) → Scanned w r → r ≡ Letters.Known → Inside w (length w)
-scanned w r s e = subst (Scanned w) e s
+pub read-is : (w items : List ℕ) (x : Read) (r : Reading) → Reads w items x → x ≡ Read.Word r → Reads w items (Read.Word r)
+read-is w items x r s e = subst (Reads w items) e s
 
-pub found : (w : List ℕ) (r : Letters) (p : ℕ) → Scanned w r → r ≡ Letters.Outside p → FirstOutside job3 w p
-found w r p s e = subst (Scanned w) e s
+pub found : (w items : List ℕ) (x : Read) (p : ℕ) → Reads w items x → x ≡ Read.Outside p → FirstOutside job3 w p
+found w items x p s e = subst (Reads w items) e s
 
 pub count-most : (items : List ℕ) (r : Reading) (w : List ℕ) → Holds items r (run start (lettersOf w)) → length w ≤ 4096 → r .count ≤ 4096
 count-most items r w h l = omega (arith, count-few items r w (length w) (subst (λ (u : List ℕ). Holds items r (run start (lettersOf u))) (sym (take-length w)) h) (omega arith))

@@ -1,81 +1,65 @@
 -- A reading in the program's array: the codes of its syllables in front, every other place empty, and the count of syllables and of their letters.
 -- Assumes nothing.
-use mathlib.Core.Path.{_≡_, refl, sym, _∙_, ap, subst}
+use mathlib.Core.Path.{_≡_, refl, sym, _∙_, ap, ap₂, subst}
 use mathlib.Core.Logic.{_≢_}
 use mathlib.Core.Bool.{Bool, true, false, cond}
 use mathlib.Core.List.{List, [], _∷_, _++_}
-use Prim.Native.Nat.{ℕ, zero, suc, _+_, _-_, _*_, _≤_, _<_}
+use Prim.Native.Nat.{ℕ, zero, suc, _+_, _-_, _*_, _/_, _≤_, _<_}
+use native.Mathlib.Nat.{add-zero}
 use native.Mathlib.Numerals.{add-one}
 use native.Mathlib.Omega.{arith}
-use borrow.Author.Tests.{eqb-true, eqb-false, ne-eqb}
+use borrow.Author.Tests.{eqb-true, eqb-false}
 use lib.Dec.{eqb}
 use lib.ListN.{length, take, drop, set, getD, replicate, length-append, length-take, length-set, length-replicate}
 use lib.Seq.{length-take-le, take-suc, take-set-le, take-suc-set, take-take, take-append-seam, getD-take, getD-append-seam, getD-set-same, getD-set-other}
-use Rattle.exact.specs.Meaning.Word.{Letter, H, S, T′}
+use Rattle.exact.specs.Meaning.Word.{Letter, T′}
 use Rattle.exact.specs.Meaning.Normal as normal
 use Rattle.exact.specs.Cases.Letters.{letterOf, lettersOf}
 use Rattle.normal_form.specs.declared.clifford.Axis.{Axis}
 use Rattle.normal_form.specs.declared.clifford.Axis.the-variants as Axis
 use Rattle.normal_form.specs.declared.clifford.Clifford.{Clifford}
-use Rattle.normal_form.specs.declared.clifford.Coset.{Coset}
 use Rattle.normal_form.specs.declared.reading.Reading.{Reading}
 use Rattle.normal_form.specs.declared.reading.Syllable.{Syllable}
 use Rattle.normal_form.specs.declared.reading.Syllable.the-variants as Syllable
+use Rattle.normal_form.specs.declared.steps.Step.{Step}
+use Rattle.normal_form.specs.declared.steps.Tail.{Tail}
 use Rattle.normal_form.specs.Job6.{Ranged}
-use Rattle.normal_form.specs.Cliffords.{mulC, mul-ranged, tconjC, tconj-ranged, cliffordI, cliffordS, cliffordHS, cliffordSHS, few}
+use Rattle.normal_form.specs.Cliffords.{mulC, cliffordS, cliffordHS, cliffordSHS}
 use Rattle.normal_form.specs.Readings.{State, state, syllable, prefix, prefix-length, start, tee, read, run, run-append, run-size, size, sizeOf}
-
--- ---- a syllable's number and letters
-abbrev pub syllableNumber : Syllable → ℕ
-syllableNumber Syllable.I = 0
-syllableNumber Syllable.T = 1
-syllableNumber Syllable.HT = 2
-syllableNumber Syllable.SHT = 3
-
-abbrev pub syllableWord : Syllable → List Letter
-syllableWord Syllable.I = []
-syllableWord Syllable.T = T′ ∷ []
-syllableWord Syllable.HT = H ∷ T′ ∷ []
-syllableWord Syllable.SHT = S ∷ H ∷ T′ ∷ []
-
-abbrev pub syllableOf : ℕ → Syllable
-syllableOf n = cond (eqb n 1) Syllable.T (cond (eqb n 2) Syllable.HT (cond (eqb n 3) Syllable.SHT Syllable.I))
-
--- T·T is S, HT·T is HS, SHT·T is SHS
-abbrev pub made : Syllable → Clifford
-made Syllable.I = cliffordI
-made Syllable.T = cliffordS
-made Syllable.HT = cliffordHS
-made Syllable.SHT = cliffordSHS
-
-abbrev pub named : normal.Syllable → Syllable
-named normal.HT = Syllable.HT
-named normal.SHT = Syllable.SHT
-
-named-word : (s : normal.Syllable) → syllableWord (named s) ≡ syllable s
-named-word normal.HT = refl
-named-word normal.SHT = refl
+use Rattle.normal_form.specs.Pairs.{kind₂, next₂, kind-few, after, two}
+use Rattle.normal_form.specs.Syllables.{syllableNumber, syllableOf, made, named, named-word, syllable-size, syllable-few}
+use Rattle.normal_form.specs.Steps.{Fits, fits-ranged, tailOf, Stepped, Gained}
 
 -- ---- codes in front of an array
 pub record Codes (items : List ℕ) (n : ℕ) (cs : List ℕ) : Type 0 where
-  pub room : length items ≡ 4096
   pub count : n ≡ length cs
   pub front : take n items ≡ cs
   pub empty : (i : ℕ) → n ≤ i → getD items i 0 ≡ 0
 
-codes-push : (items : List ℕ) (n : ℕ) (cs : List ℕ) (x : ℕ) → Codes items n cs → n < 4096 → Codes (set items n x) (n + 1) (cs ++ (x ∷ []))
+codes-push : (items : List ℕ) (n : ℕ) (cs : List ℕ) (x : ℕ) → Codes items n cs → n < length items → Codes (set items n x) (n + 1) (cs ++ (x ∷ []))
 codes-push items n cs x h l =
     record {
-      room = length-set items n x ∙ h .room;
       count = omega (arith, length-append cs (x ∷ []), h .count);
-      front = rw (add-one n) (take-suc-set items n x (omega (arith, h .room)) ∙ ap (λ u. u ++ (x ∷ [])) (h .front));
+      front = rw (add-one n) (take-suc-set items n x l ∙ ap (λ u. u ++ (x ∷ [])) (h .front));
       empty = λ i k. getD-set-other items n i x 0 (λ e. omega arith) ∙ h .empty i (omega arith);
     }
+
+-- nothing written behind them is nothing changed
+codes-keep : (items : List ℕ) (n : ℕ) (cs : List ℕ) → Codes items n cs → n < length items → Codes (set items n 0) n cs
+codes-keep items n cs h l =
+    record {
+      count = h .count;
+      front = take-set-le n items n 0 (omega arith) ∙ h .front;
+      empty = λ i k. at i k (eqb i n) refl;
+    }
+  where
+    at : (i : ℕ) → n ≤ i → (b : Bool) → eqb i n ≡ b → getD (set items n 0) i 0 ≡ 0
+    at i k true e = rw (eqb-true i n e) (getD-set-same items n 0 0 l)
+    at i k false e = getD-set-other items n i 0 0 (eqb-false i n e) ∙ h .empty i k
 
 codes-pop : (items : List ℕ) (n : ℕ) (cs : List ℕ) (x : ℕ) → Codes items n (cs ++ (x ∷ [])) → Codes (set items (n - 1) 0) (n - 1) cs
 codes-pop items n cs x h =
     record {
-      room = length-set items (n - 1) 0 ∙ h .room;
       count = few-is;
       front = take-set-le (n - 1) items (n - 1) 0 (omega arith) ∙ sym (take-take (n - 1) n items (omega arith)) ∙ ap (take (n - 1)) (h .front) ∙ ap (λ k. take k (cs ++ (x ∷ []))) few-is ∙ take-append-seam cs (x ∷ []);
       empty = λ i k. gone i k;
@@ -85,7 +69,7 @@ codes-pop items n cs x h =
     few-is = omega (arith, length-append cs (x ∷ []), h .count)
 
     within : n - 1 < length items
-    within = omega (arith, length-take n items, ap length (h .front), length-append cs (x ∷ []), h .count, h .room)
+    within = omega (arith, length-take n items, ap length (h .front), length-append cs (x ∷ []), h .count)
 
     gone : (i : ℕ) → n - 1 ≤ i → getD (set items (n - 1) 0) i 0 ≡ 0
     gone i k = at (eqb i (n - 1)) refl
@@ -104,6 +88,9 @@ codes-last items n cs x h =
     few-is : n - 1 ≡ length cs
     few-is = omega (arith, length-append cs (x ∷ []), h .count)
 
+codes-within : (items : List ℕ) (n : ℕ) (cs : List ℕ) → Codes items n cs → n ≤ length items
+codes-within items n cs h = omega (arith, length-take n items, ap length (h .front), h .count)
+
 -- ---- the codes of a reading
 abbrev pub codes : Bool → List normal.Syllable → List ℕ
 codes true [] = 1 ∷ []
@@ -113,8 +100,11 @@ codes b (s ∷ ss) = codes b ss ++ (syllableNumber (named s) ∷ [])
 pub record Holds (items : List ℕ) (r : Reading) (st : State) : Type 0 where
   pub array : Codes items (r .count) (codes (st .lead) (st .stack))
   pub bytes-is : r .bytes ≡ length (prefix (st .lead) (st .stack))
-  pub tail-is : r .tail ≡ st .q
-  pub ranged : Ranged (r .tail)
+  pub tail-is : tailOf (r .tail) ≡ st .q
+  pub fits : Fits (r .tail)
+
+pub count-within : {items : List ℕ} {r : Reading} {st : State} → Holds items r st → r .count ≤ length items
+count-within {items} {r} {st} h = codes-within items (r .count) (codes (st .lead) (st .stack)) (h .array)
 
 -- some reading is held
 pub record Readable (items : List ℕ) (r : Reading) : Type 0 where
@@ -126,32 +116,31 @@ pub record Steps (f : State → State) (old : List ℕ) (r : Reading) (new : Lis
   pub step : (st : State) → Holds old r st → Holds new n (f st)
 
 pub record Blank (items : List ℕ) : Type 0 where
-  pub room : length items ≡ 4096
   pub empty : (i : ℕ) → getD items i 0 ≡ 0
 
-zeros : (n i : ℕ) → _≡_ {A = ℕ} (getD (replicate {A = ℕ} n 0) i 0) 0
-zeros zero i = refl
-zeros (suc n) zero = refl
-zeros (suc n) (suc i) = zeros n i
-
-pub blank : Blank (replicate {A = ℕ} 4096 0)
-blank = record { room = length-replicate {A = ℕ} 4096 0; empty = zeros 4096 }
+pub blank : (n : ℕ) → Blank (replicate {A = ℕ} n 0)
+blank n = record { empty = zeros n }
+  where
+    zeros : (n i : ℕ) → _≡_ {A = ℕ} (getD (replicate {A = ℕ} n 0) i 0) 0
+    zeros zero i = refl
+    zeros (suc n) zero = refl
+    zeros (suc n) (suc i) = zeros n i
 
 -- ---- push and pop
-pub record Pushed (old : List ℕ) (r : Reading) (s : Syllable) (tail : Clifford) (new : List ℕ) (n : Reading) : Type 0 where
-  pub items : new ≡ set old (r .count) (syllableNumber s)
-  pub is : n ≡ record { count = r .count + 1; bytes = r .bytes + length (syllableWord s); tail = tail }
+pub record Pushed (old : List ℕ) (r : Reading) (code more : ℕ) (tail : Tail) (new : List ℕ) (n : Reading) : Type 0 where
+  pub items : new ≡ set old (r .count) code
+  pub is : n ≡ record { count = r .count + more; bytes = r .bytes + code; tail = tail }
 
-pub record Popped (old : List ℕ) (r : Reading) (s : Syllable) (tail : Clifford) (new : List ℕ) (n : Reading) : Type 0 where
+pub record Popped (old : List ℕ) (r : Reading) (code : ℕ) (tail : Tail) (new : List ℕ) (n : Reading) : Type 0 where
   pub items : new ≡ set old (r .count - 1) 0
-  pub is : n ≡ record { count = r .count - 1; bytes = r .bytes - length (syllableWord s); tail = tail }
+  pub is : n ≡ record { count = r .count - 1; bytes = r .bytes - code; tail = tail }
 
 -- a T with nothing before it but the syllables
 abbrev pub cancelled : Clifford → State → State
-cancelled r st = tee Axis.I r (st .lead) (st .stack)
+cancelled q st = tee Axis.I q (st .lead) (st .stack)
 
-abbrev pub multiplied : Reading → Clifford → Reading
-multiplied r c = record { count = r .count; bytes = r .bytes; tail = mulC (r .tail) c }
+abbrev pub pair : Letter → Letter → State → State
+pair l m st = read m (read l st)
 
 -- ---- sizes
 codes-length : (b : Bool) (ss : List normal.Syllable) → length (codes b ss) ≡ size b ss
@@ -160,14 +149,14 @@ codes-length false [] = refl
 codes-length true (s ∷ ss) = omega (arith, length-append (codes true ss) (syllableNumber (named s) ∷ []), codes-length true ss)
 codes-length false (s ∷ ss) = omega (arith, length-append (codes false ss) (syllableNumber (named s) ∷ []), codes-length false ss)
 
-syllable-few : (s : normal.Syllable) → length (syllable s) ≤ 3
-syllable-few normal.HT = omega arith
-syllable-few normal.SHT = omega arith
+syllable-short : (s : normal.Syllable) → length (syllable s) ≤ 3
+syllable-short normal.HT = omega arith
+syllable-short normal.SHT = omega arith
 
 prefix-few : (b : Bool) (ss : List normal.Syllable) → length (prefix b ss) ≤ 3 * size b ss
 prefix-few true [] = omega arith
 prefix-few false [] = omega arith
-prefix-few b (s ∷ ss) = omega (arith, prefix-length b s ss, syllable-few s, prefix-few b ss)
+prefix-few b (s ∷ ss) = omega (arith, prefix-length b s ss, syllable-short s, prefix-few b ss)
 
 pub count-is : {items : List ℕ} {r : Reading} {st : State} → Holds items r st → r .count ≡ sizeOf st
 count-is {items} {r} {st} h = h .array .count ∙ codes-length (st .lead) (st .stack)
@@ -175,142 +164,153 @@ count-is {items} {r} {st} h = h .array .count ∙ codes-length (st .lead) (st .s
 pub bytes-most : {items : List ℕ} {r : Reading} {st : State} → Holds items r st → r .count ≤ 4096 → r .bytes ≤ 12288
 bytes-most {items} {r} {st} h l = omega (arith, h .bytes-is, prefix-few (st .lead) (st .stack), count-is h)
 
-pub bytes-few : {items : List ℕ} {r : Reading} {st : State} → Holds items r st → r .count < 4096 → r .bytes ≤ 12288
-bytes-few h l = bytes-most h (omega arith)
+-- a syllable's bytes are as many as its number
+longer : (b : Bool) (s : normal.Syllable) (ss : List normal.Syllable) → length (prefix b (s ∷ ss)) ≡ length (prefix b ss) + syllableNumber (named s)
+longer b s ss = omega (arith, prefix-length b s ss, ap length (named-word s), syllable-size (named s))
 
--- ---- adding a syllable
-pub push-holds : (old : List ℕ) (r : Reading) (st : State) (s : normal.Syllable) (tail : Clifford) (new : List ℕ) (n : Reading) → Holds old r st → r .count < 4096 → Ranged tail → Pushed old r (named s) tail new n → Holds new n (state (st .lead) (s ∷ st .stack) tail)
-push-holds old r st s tail new n h l k p =
-    rw (p .items, p .is)
-    (record {
-      array = codes-push old (r .count) (codes (st .lead) (st .stack)) (syllableNumber (named s)) (h .array) l;
-      bytes-is = omega (arith, h .bytes-is, prefix-length (st .lead) s (st .stack), ap length (named-word s));
-      tail-is = refl;
-      ranged = k;
-    })
+-- ---- adding a syllable, or none
+module _ (old : List ℕ) (r : Reading) (tail : Tail) (new : List ℕ) (n : Reading) (l : r .count < length old) (k : Fits tail) where
+  kept-holds : (st : State) → Holds old r st → Pushed old r 0 0 tail new n → Holds new n (state (st .lead) (st .stack) (tailOf tail))
+  kept-holds st h p =
+      rw (p .items, p .is, add-zero (r .count), add-zero (r .bytes))
+      (record { array = codes-keep old (r .count) (codes (st .lead) (st .stack)) (h .array) l; bytes-is = h .bytes-is; tail-is = refl; fits = k })
 
-pub first-holds : (old : List ℕ) (r : Reading) (q tail : Clifford) (new : List ℕ) (n : Reading) → Holds old r (state false [] q) → r .count < 4096 → Ranged tail → Pushed old r Syllable.T tail new n → Holds new n (state true [] tail)
-first-holds old r q tail new n h l k p =
-    rw (p .items, p .is)
-    (record { array = codes-push old (r .count) [] 1 (h .array) l; bytes-is = omega (arith, h .bytes-is); tail-is = refl; ranged = k })
+  push-holds : (st : State) (s : normal.Syllable) → Holds old r st → Pushed old r (syllableNumber (named s)) 1 tail new n → Holds new n (state (st .lead) (s ∷ st .stack) (tailOf tail))
+  push-holds st s h p =
+      rw (p .items, p .is)
+      (record {
+        array = codes-push old (r .count) (codes (st .lead) (st .stack)) (syllableNumber (named s)) (h .array) l;
+        bytes-is = omega (arith, h .bytes-is, longer (st .lead) s (st .stack));
+        tail-is = refl;
+        fits = k;
+      })
+
+  first-holds : (q : Clifford) → Holds old r (state false [] q) → Pushed old r 1 1 tail new n → Holds new n (state true [] (tailOf tail))
+  first-holds q h p =
+      rw (p .items, p .is)
+      (record { array = codes-push old (r .count) [] 1 (h .array) l; bytes-is = omega (arith, h .bytes-is); tail-is = refl; fits = k })
 
 -- ---- removing one
-pop-holds : (old : List ℕ) (r : Reading) (b : Bool) (s : normal.Syllable) (ss : List normal.Syllable) (q tail : Clifford) (new : List ℕ) (n : Reading) → Holds old r (state b (s ∷ ss) q) → Ranged tail → Popped old r (named s) tail new n → Holds new n (state b ss tail)
-pop-holds old r b s ss q tail new n h k p =
-    rw (p .items, p .is)
-    (record {
-      array = codes-pop old (r .count) (codes b ss) (syllableNumber (named s)) (h .array);
-      bytes-is = omega (arith, h .bytes-is, prefix-length b s ss, ap length (named-word s));
-      tail-is = refl;
-      ranged = k;
-    })
+module _ (old : List ℕ) (r : Reading) (q : Clifford) (tail : Tail) (new : List ℕ) (n : Reading) (k : Fits tail) where
+  pop-holds : (b : Bool) (s : normal.Syllable) (ss : List normal.Syllable) → Holds old r (state b (s ∷ ss) q) → Popped old r (syllableNumber (named s)) tail new n → Holds new n (state b ss (tailOf tail))
+  pop-holds b s ss h p =
+      rw (p .items, p .is)
+      (record {
+        array = codes-pop old (r .count) (codes b ss) (syllableNumber (named s)) (h .array);
+        bytes-is = omega (arith, h .bytes-is, longer b s ss);
+        tail-is = refl;
+        fits = k;
+      })
 
-unfirst-holds : (old : List ℕ) (r : Reading) (q tail : Clifford) (new : List ℕ) (n : Reading) → Holds old r (state true [] q) → Ranged tail → Popped old r Syllable.T tail new n → Holds new n (state false [] tail)
-unfirst-holds old r q tail new n h k p =
-    rw (p .items, p .is)
-    (record { array = codes-pop old (r .count) [] 1 (h .array); bytes-is = omega (arith, h .bytes-is); tail-is = refl; ranged = k })
+  unfirst-holds : Holds old r (state true [] q) → Popped old r 1 tail new n → Holds new n (state false [] (tailOf tail))
+  unfirst-holds h p =
+      rw (p .items, p .is)
+      (record { array = codes-pop old (r .count) [] 1 (h .array); bytes-is = omega (arith, h .bytes-is); tail-is = refl; fits = k })
 
--- ---- the last syllable
-syllable-back : (s : Syllable) → syllableOf (syllableNumber s) ≡ s
-syllable-back Syllable.I = refl
-syllable-back Syllable.T = refl
-syllable-back Syllable.HT = refl
-syllable-back Syllable.SHT = refl
+-- ---- the last syllable's number: none, the T in front, or another
+abbrev lastOf : Bool → List normal.Syllable → ℕ
+lastOf true [] = 1
+lastOf false [] = 0
+lastOf b (s ∷ ss) = syllableNumber (named s)
 
--- the last syllable's case: none, the T in front, or another
-abbrev pub lastOf : Bool → List normal.Syllable → Syllable
-lastOf true [] = Syllable.T
-lastOf false [] = Syllable.I
-lastOf b (s ∷ ss) = named s
-
-last-is : (old : List ℕ) (r : Reading) (b : Bool) (ss : List normal.Syllable) (q : Clifford) → Holds old r (state b ss q) → (r .count ≡ 0 → ⊥) → syllableOf (getD old (r .count - 1) 0) ≡ lastOf b ss
-last-is old r true [] q h f = ap syllableOf (codes-last old (r .count) [] 1 (h .array))
+last-is : (old : List ℕ) (r : Reading) (b : Bool) (ss : List normal.Syllable) (q : Clifford) → Holds old r (state b ss q) → (r .count ≡ 0 → ⊥) → getD old (r .count - 1) 0 ≡ lastOf b ss
+last-is old r true [] q h f = codes-last old (r .count) [] 1 (h .array)
 last-is old r false [] q h f = absurd (f (h .array .count))
-last-is old r true (s ∷ ss) q h f = ap syllableOf (codes-last old (r .count) (codes true ss) (syllableNumber (named s)) (h .array)) ∙ syllable-back (named s)
-last-is old r false (s ∷ ss) q h f = ap syllableOf (codes-last old (r .count) (codes false ss) (syllableNumber (named s)) (h .array)) ∙ syllable-back (named s)
+last-is old r true (s ∷ ss) q h f = codes-last old (r .count) (codes true ss) (syllableNumber (named s)) (h .array)
+last-is old r false (s ∷ ss) q h f = codes-last old (r .count) (codes false ss) (syllableNumber (named s)) (h .array)
 
-last-room : (b : Bool) (ss : List normal.Syllable) → length (syllableWord (lastOf b ss)) ≤ length (prefix b ss)
-last-room true [] = omega arith
-last-room false [] = omega arith
-last-room true (s ∷ ss) = omega (arith, prefix-length true s ss, ap length (named-word s))
-last-room false (s ∷ ss) = omega (arith, prefix-length false s ss, ap length (named-word s))
+last-room : (b : Bool) (ss : List normal.Syllable) → (lastOf b ss ≤ length (prefix b ss)) × (lastOf b ss < 4)
+last-room true [] = (omega arith, omega arith)
+last-room false [] = (omega arith, omega arith)
+last-room true (s ∷ ss) = (omega (arith, longer true s ss), omega (arith, syllable-few (named s)))
+last-room false (s ∷ ss) = (omega (arith, longer false s ss), omega (arith, syllable-few (named s)))
 
-pub pop-room : (old : List ℕ) (r : Reading) (st : State) (s : Syllable) → Holds old r st → (r .count ≡ 0 → ⊥) → s ≡ syllableOf (getD old (r .count - 1) 0) → length (syllableWord s) ≤ r .bytes
-pop-room old r st s h f e = rw (e ∙ last-is old r (st .lead) (st .stack) (st .q) h f) (omega (arith, h .bytes-is, last-room (st .lead) (st .stack)))
-
-pub made-ranged : (s : Syllable) → Ranged (made s)
-made-ranged Syllable.I = few 0 0 0 0 (omega arith) (omega arith) (omega arith) (omega arith)
-made-ranged Syllable.T = few 0 0 1 0 (omega arith) (omega arith) (omega arith) (omega arith)
-made-ranged Syllable.HT = few 1 0 2 5 (omega arith) (omega arith) (omega arith) (omega arith)
-made-ranged Syllable.SHT = few 2 0 1 3 (omega arith) (omega arith) (omega arith) (omega arith)
+pub pop-room : (old : List ℕ) (r : Reading) (st : State) → Holds old r st → (r .count ≡ 0 → ⊥) → (getD old (r .count - 1) 0 ≤ r .bytes) × (getD old (r .count - 1) 0 < 4)
+pop-room old r st h f =
+    let p = last-room (st .lead) (st .stack) in
+    let e = last-is old r (st .lead) (st .stack) (st .q) h f in
+    (omega (arith, e, p .0, h .bytes-is), omega (arith, e, p .1))
 
 -- ---- a T that meets the last syllable
-pub cancel-none : (old : List ℕ) (r : Reading) (rest : Clifford) (new : List ℕ) (n : Reading) → r .count ≡ 0 → Ranged rest → Pushed old r Syllable.T rest new n → Steps (cancelled rest) old r new n
-cancel-none old r rest new n e k p = record { step = λ st h. go (st .lead) (st .stack) (st .q) h }
+pub cancel-none : (old : List ℕ) (r : Reading) (rest : Tail) (new : List ℕ) (n : Reading) → r .count ≡ 0 → r .count < length old → Fits rest → Pushed old r 1 1 rest new n → Steps (cancelled (tailOf rest)) old r new n
+cancel-none old r rest new n e l k p = record { step = λ st h. go (st .lead) (st .stack) (st .q) h }
   where
-    go : (b : Bool) (ss : List normal.Syllable) (q : Clifford) → Holds old r (state b ss q) → Holds new n (tee Axis.I rest b ss)
+    go : (b : Bool) (ss : List normal.Syllable) (q : Clifford) → Holds old r (state b ss q) → Holds new n (tee Axis.I (tailOf rest) b ss)
     go true [] q h = absurd (omega (arith, count-is h))
-    go false [] q h = first-holds old r q rest new n h (omega arith) k p
+    go false [] q h = first-holds old r rest new n l k q h p
     go true (s ∷ ss) q h = absurd (omega (arith, count-is h))
     go false (s ∷ ss) q h = absurd (omega (arith, count-is h))
 
-pub cancel-some : (old : List ℕ) (r : Reading) (rest : Clifford) (s : Syllable) (new : List ℕ) (n : Reading) → (r .count ≡ 0 → ⊥) → s ≡ syllableOf (getD old (r .count - 1) 0) → Popped old r s (mulC (made s) rest) new n → Steps (cancelled rest) old r new n
-cancel-some old r rest s new n f e p = record { step = λ st h. go (st .lead) (st .stack) (st .q) h }
+pub cancel-some : (old : List ℕ) (r : Reading) (rest tail : Tail) (new : List ℕ) (n : Reading) → (r .count ≡ 0 → ⊥) → Gained (getD old (r .count - 1) 0) rest tail → Popped old r (getD old (r .count - 1) 0) tail new n → Steps (cancelled (tailOf rest)) old r new n
+cancel-some old r rest tail new n f g p = record { step = λ st h. go (st .lead) (st .stack) (st .q) h }
   where
-    was : (b : Bool) (ss : List normal.Syllable) (q : Clifford) → Holds old r (state b ss q) → Popped old r (lastOf b ss) (mulC (made (lastOf b ss)) rest) new n
-    was b ss q h = subst (λ (t : Syllable). Popped old r t (mulC (made t) rest) new n) (e ∙ last-is old r b ss q h f) p
+    was : (b : Bool) (ss : List normal.Syllable) (q : Clifford) → Holds old r (state b ss q) → Popped old r (lastOf b ss) tail new n
+    was b ss q h = subst (λ (c : ℕ). Popped old r c tail new n) (last-is old r b ss q h f) p
 
-    go : (b : Bool) (ss : List normal.Syllable) (q : Clifford) → Holds old r (state b ss q) → Holds new n (tee Axis.I rest b ss)
-    go true [] q h = unfirst-holds old r q (mulC cliffordS rest) new n h (mul-ranged cliffordS rest) (was true [] q h)
+    behind : (b : Bool) (ss : List normal.Syllable) (q : Clifford) → Holds old r (state b ss q) → tailOf tail ≡ mulC (made (syllableOf (lastOf b ss))) (tailOf rest)
+    behind b ss q h = g .tail-is ∙ ap (λ (c : ℕ). mulC (made (syllableOf c)) (tailOf rest)) (last-is old r b ss q h f)
+
+    go : (b : Bool) (ss : List normal.Syllable) (q : Clifford) → Holds old r (state b ss q) → Holds new n (tee Axis.I (tailOf rest) b ss)
+    go true [] q h = subst (λ (x : Clifford). Holds new n (state false [] x)) (behind true [] q h) (unfirst-holds old r q tail new n (g .fits) h (was true [] q h))
     go false [] q h = absurd (f (h .array .count))
-    go b (normal.HT ∷ ss) q h = pop-holds old r b normal.HT ss q (mulC cliffordHS rest) new n h (mul-ranged cliffordHS rest) (was b (normal.HT ∷ ss) q h)
-    go b (normal.SHT ∷ ss) q h = pop-holds old r b normal.SHT ss q (mulC cliffordSHS rest) new n h (mul-ranged cliffordSHS rest) (was b (normal.SHT ∷ ss) q h)
+    go b (normal.HT ∷ ss) q h = subst (λ (x : Clifford). Holds new n (state b ss x)) (behind b (normal.HT ∷ ss) q h) (pop-holds old r q tail new n (g .fits) b normal.HT ss h (was b (normal.HT ∷ ss) q h))
+    go b (normal.SHT ∷ ss) q h = subst (λ (x : Clifford). Holds new n (state b ss x)) (behind b (normal.SHT ∷ ss) q h) (pop-holds old r q tail new n (g .fits) b normal.SHT ss h (was b (normal.SHT ∷ ss) q h))
 
--- ---- a T, by its axis
-module _ (old : List ℕ) (r : Reading) (p : Coset) (new : List ℕ) (n : Reading) (e : p ≡ tconjC (r .tail)) where
-  passed : (st : State) → Holds old r st → tconjC (st .q) ≡ p
-  passed st h = ap tconjC (sym (h .tail-is)) ∙ sym e
+-- ---- two letters, by their kind
+module _ (old : List ℕ) (r : Reading) (l m : Letter) (s : Step) (new : List ℕ) (n : Reading) (w : Stepped l m (r .tail) s) where
+  changed : (st : State) → Holds old r st → pair l m st ≡ after (s .kind) (tailOf (s .tail)) (st .lead) (st .stack)
+  changed st h =
+      two l m st (subst Ranged (h .tail-is) (fits-ranged (r .tail) (h .fits)))
+      ∙ ap₂ (λ (k : ℕ) (x : Clifford). after k x (st .lead) (st .stack))
+      (ap (kind₂ l m) (sym (h .tail-is)) ∙ sym (w .kind-is))
+      (ap (next₂ l m) (sym (h .tail-is)) ∙ sym (w .tail-is))
 
-  turn : (st : State) → Holds old r st → (a : Axis) → p .axis ≡ a → read T′ st ≡ tee a (p .rest) (st .lead) (st .stack)
-  turn st h a f = ap (λ (x : Coset). tee (x .axis) (x .rest) (st .lead) (st .stack)) (passed st h) ∙ ap (λ (x : Axis). tee x (p .rest) (st .lead) (st .stack)) f
+  pub meets : s .kind ≡ 1 → Steps (cancelled (tailOf (s .tail))) old r new n → Steps (pair l m) old r new n
+  meets e p =
+      record { step = λ st h. subst (Holds new n) (sym (changed st h ∙ ap (λ (k : ℕ). after k (tailOf (s .tail)) (st .lead) (st .stack)) e)) (p .step st h) }
 
-  pub rest-ranged : Ranged (p .rest)
-  rest-ranged = rw e (tconj-ranged (r .tail))
+  pub few : s .kind ≤ 3
+  few = omega (arith, w .kind-is, kind-few l m (tailOf (r .tail)))
 
-  pub tee-I : p .axis ≡ Axis.I → Steps (cancelled (p .rest)) old r new n → Steps (read T′) old r new n
-  tee-I f s = record { step = λ st h. subst (Holds new n) (sym (turn st h Axis.I f)) (s .step st h) }
-
-  pub tee-H : p .axis ≡ Axis.H → r .count < 4096 → Pushed old r Syllable.HT (p .rest) new n → Steps (read T′) old r new n
-  tee-H f l s = record { step = λ st h. subst (Holds new n) (sym (turn st h Axis.H f)) (push-holds old r st normal.HT (p .rest) new n h l rest-ranged s) }
-
-  pub tee-SH : p .axis ≡ Axis.SH → r .count < 4096 → Pushed old r Syllable.SHT (p .rest) new n → Steps (read T′) old r new n
-  tee-SH f l s = record { step = λ st h. subst (Holds new n) (sym (turn st h Axis.SH f)) (push-holds old r st normal.SHT (p .rest) new n h l rest-ranged s) }
-
--- ---- a Clifford letter
-pub times-holds : (old : List ℕ) (r : Reading) (c : Clifford) (n : Reading) (st : State) → Holds old r st → n ≡ multiplied r c → Holds old n (state (st .lead) (st .stack) (mulC (st .q) c))
-times-holds old r c n st h e =
-    rw e (record { array = h .array; bytes-is = h .bytes-is; tail-is = ap (λ (x : Clifford). mulC x c) (h .tail-is); ranged = mul-ranged (r .tail) c })
+  pub adds : (s .kind ≡ 1 → ⊥) → r .count < length old → Pushed old r (s .kind) (s .kind / 2) (s .tail) new n → Steps (pair l m) old r new n
+  adds f k p = record { step = λ st h. subst (Holds new n) (sym (changed st h)) (go (s .kind) f few p st h) }
+    where
+      go : (kind : ℕ) → (kind ≡ 1 → ⊥) → kind ≤ 3 → Pushed old r kind (kind / 2) (s .tail) new n → (st : State) → Holds old r st → Holds new n (after kind (tailOf (s .tail)) (st .lead) (st .stack))
+      go zero f c p st h = kept-holds old r (s .tail) new n k (w .fits) st h p
+      go (suc zero) f c p st h = absurd (f refl)
+      go (suc (suc zero)) f c p st h = push-holds old r (s .tail) new n k (w .fits) st normal.HT h p
+      go (suc (suc (suc zero))) f c p st h = push-holds old r (s .tail) new n k (w .fits) st normal.SHT h p
+      go (suc (suc (suc (suc j)))) f c p st h = absurd (omega arith)
 
 -- ---- a word
-pub start-holds : (items : List ℕ) → Blank items → Holds items (record { count = 0; bytes = 0; tail = cliffordI }) start
+pub start-holds : (items : List ℕ) → Blank items → Holds items (record { count = 0; bytes = 0; tail = record { code = 0; phase = 0 } }) start
 start-holds items b =
     record {
-      array = record { room = b .room; count = refl; front = refl; empty = λ i k. b .empty i };
+      array = record { count = refl; front = refl; empty = λ i k. b .empty i };
       bytes-is = refl;
       tail-is = refl;
-      ranged = made-ranged Syllable.I;
+      fits = record { code-few = omega arith; phase-few = omega arith };
     }
 
 lettersOf-append : (u v : List ℕ) → lettersOf (u ++ v) ≡ lettersOf u ++ lettersOf v
 lettersOf-append [] v = refl
 lettersOf-append (b ∷ u) v = ap (λ x. letterOf b ∷ x) (lettersOf-append u v)
 
--- one letter more
+-- one letter more, and two
 pub run-more : (w : List ℕ) (i : ℕ) → i < length w → run start (lettersOf (take (i + 1) w)) ≡ read (letterOf (getD w i 0)) (run start (lettersOf (take i w)))
 run-more w i h =
     ap (λ u. run start (lettersOf u)) (ap (λ n. take n w) (add-one i) ∙ take-suc w i 0 h)
     ∙ ap (run start) (lettersOf-append (take i w) (getD w i 0 ∷ []))
     ∙ run-append start (lettersOf (take i w)) (letterOf (getD w i 0) ∷ [])
+
+pub run-pair : (w : List ℕ) (i : ℕ) → i + 1 < length w → run start (lettersOf (take (i + 2) w)) ≡ pair (letterOf (getD w i 0)) (letterOf (getD w (i + 1) 0)) (run start (lettersOf (take i w)))
+run-pair w i h =
+    ap (λ n. run start (lettersOf (take n w))) (twice i)
+    ∙ run-more w (i + 1) h
+    ∙ ap (read (letterOf (getD w (i + 1) 0))) (run-more w i (omega arith))
+  where
+    twice : (i : ℕ) → i + 2 ≡ i + 1 + 1
+    twice i = omega arith
 
 lettersOf-length : (u : List ℕ) → length (lettersOf u) ≡ length u
 lettersOf-length [] = refl
@@ -318,29 +318,3 @@ lettersOf-length (b ∷ u) = ap suc (lettersOf-length u)
 
 pub count-few : (items : List ℕ) (r : Reading) (w : List ℕ) (i : ℕ) → Holds items r (run start (lettersOf (take i w))) → i ≤ length w → r .count ≤ i
 count-few items r w i h l = omega (arith, count-is h, run-size start (lettersOf (take i w)), lettersOf-length (take i w), length-take-le i w l)
-
--- ---- what the program does
-pub push-by : (old : List ℕ) (r : Reading) (s : Syllable) (tail : Clifford) (code more : ℕ) → code ≡ syllableNumber s → more ≡ length (syllableWord s) → Pushed old r s tail (set old (r .count) code) (record { count = r .count + 1; bytes = r .bytes + more; tail = tail })
-push-by old r s tail code more e f = rw (e, f) (record { items = refl; is = refl })
-
-pub pop-by : (old : List ℕ) (r : Reading) (s : Syllable) (tail : Clifford) (less : ℕ) → less ≡ length (syllableWord s) → Popped old r s tail (set old (r .count - 1) 0) (record { count = r .count - 1; bytes = r .bytes - less; tail = tail })
-pop-by old r s tail less f = rw f (record { items = refl; is = refl })
-
-pub syllable-short : (s : Syllable) → length (syllableWord s) ≤ 3
-syllable-short Syllable.I = omega arith
-syllable-short Syllable.T = omega arith
-syllable-short Syllable.HT = omega arith
-syllable-short Syllable.SHT = omega arith
-
-pub syllable-none : (n : ℕ) → (n ≡ 1 → ⊥) → (n ≡ 2 → ⊥) → (n ≡ 3 → ⊥) → Syllable.I ≡ syllableOf n
-syllable-none n a b c = rw (ne-eqb n 1 a, ne-eqb n 2 b, ne-eqb n 3 c)
-
-pub cancel-by : (old : List ℕ) (r : Reading) (rest : Clifford) (s : Syllable) (m tail : Clifford) (new : List ℕ) (n : Reading) → (r .count ≡ 0 → ⊥) → s ≡ syllableOf (getD old (r .count - 1) 0) → m ≡ made s → tail ≡ mulC m rest → Popped old r s tail new n → Steps (cancelled rest) old r new n
-cancel-by old r rest s m tail new n f e g k p = cancel-some old r rest s new n f e (subst (λ (t : Clifford). Popped old r s t new n) (k ∙ ap (λ (x : Clifford). mulC x rest) g) p)
-
--- the letters' steps
-pub gate-times : (old : List ℕ) (r : Reading) (l : Letter) (c : Clifford) (gate : ℕ) (n : Reading) → letterOf gate ≡ l → ((st : State) → read l st ≡ state (st .lead) (st .stack) (mulC (st .q) c)) → n ≡ multiplied r c → Steps (read (letterOf gate)) old r old n
-gate-times old r l c gate n e f g = rw e (record { step = λ st h. subst (Holds old n) (sym (f st)) (times-holds old r c n st h g) })
-
-pub gate-other : (old : List ℕ) (r : Reading) (gate : ℕ) → (gate ≡ 72 → ⊥) → (gate ≡ 83 → ⊥) → (gate ≡ 88 → ⊥) → (gate ≡ 87 → ⊥) → (gate ≡ 84 → ⊥) → Steps (read (letterOf gate)) old r old r
-gate-other old r gate a b c d e = rw (ne-eqb gate 72 a, ne-eqb gate 83 b, ne-eqb gate 88 c, ne-eqb gate 87 d, ne-eqb gate 84 e) (record { step = λ st h. h })

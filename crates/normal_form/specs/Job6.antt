@@ -91,11 +91,14 @@ axis-read Axis.I = refl
 axis-read Axis.H = refl
 axis-read Axis.SH = refl
 
+pub axis-at : (x y : Axis) → axisNumber x ≡ axisNumber y → x ≡ y
+axis-at x y e = sym (axis-read x) ∙ ap axisOf e ∙ axis-read y
+
 pub Split-unique : (x : Clifford) (r s : Coset) → Split x r → Split x s → r ≡ s
 Split-unique x r s p q = λ i. record { axis = axes i; rest = rests i }
   where
     axes : r .axis ≡ s .axis
-    axes = sym (axis-read (r .axis)) ∙ ap axisOf (p .axis-is ∙ sym (q .axis-is)) ∙ axis-read (s .axis)
+    axes = axis-at (r .axis) (s .axis) (p .axis-is ∙ sym (q .axis-is))
 
     rests : r .rest ≡ s .rest
     rests =

@@ -1,4 +1,4 @@
--- Whether a byte is a letter of job 3, and the first that is not. Assumes nothing.
+-- Whether a byte is a letter of job 3, and what a word is read as: a reading, or the first byte that is no letter. Assumes nothing.
 use mathlib.Core.Path.{_≡_, refl, sym, _∙_, ap, ap₂, subst}
 use mathlib.Core.Bool.{Bool, true, false, cond}
 use mathlib.Core.List.{List, [], _∷_}
@@ -6,11 +6,14 @@ use Prim.Native.Nat.{ℕ, zero, suc, _<_, _≤_, _+_}
 use native.Mathlib.Omega.{arith}
 use lib.Dec.{T, eqb}
 use lib.ListN.{length, getD}
-use borrow.Author.Tests.{eqb-true, eqb-false, ne-eqb}
+use borrow.Author.Tests.{eqb-true, eqb-false}
 use Rattle.exact.specs.Meaning.Word.{Letter, I, H, S, X, W, T′, byte, bytes, job3, In, FirstOutside, Spells}
 use Rattle.exact.specs.Cases.Letters.{letterOf, letterOf-byte, lettersOf}
-use Rattle.normal_form.specs.declared.Letters.{Letters}
-use Rattle.normal_form.specs.declared.Letters.the-variants as Letters
+use Rattle.normal_form.specs.declared.reading.Read.{Read}
+use Rattle.normal_form.specs.declared.reading.Read.the-variants as Read
+use Rattle.normal_form.specs.Readings.{start, run}
+use Rattle.normal_form.specs.Steps.{letterNumber, number-known, number-unknown}
+use Rattle.normal_form.specs.Held.{Holds}
 
 abbrev pub known : ℕ → Bool
 known b = job3 (letterOf b)
@@ -40,25 +43,29 @@ byte-back b k = go (eqb b 72) (eqb b 83) (eqb b 88) (eqb b 87) (eqb b 84) refl r
     go false false false false true e f g i j k = sym (eqb-true b 84 j)
     go false false false false false e f g i j k = absurd (false-true k)
 
-pub known-in : (b : ℕ) → known b ≡ true → In job3 b
+known-in : (b : ℕ) → known b ≡ true → In job3 b
 known-in b k = record { letter-there = letterOf b; allowed = true-is (job3 (letterOf b)) k; is = byte-back b k }
 
 in-known : (b : ℕ) → In job3 b → known b ≡ true
 in-known b h = ap known (sym (h .is)) ∙ ap job3 (letterOf-byte (h .letter-there)) ∙ is-true (job3 (h .letter-there)) (h .allowed)
 
-pub unknown-out : (b : ℕ) → known b ≡ false → In job3 b → ⊥
+unknown-out : (b : ℕ) → known b ≡ false → In job3 b → ⊥
 unknown-out b e h = false-true (sym e ∙ in-known b h)
 
-pub known-none : (b : ℕ) → (b ≡ 72 → ⊥) → (b ≡ 83 → ⊥) → (b ≡ 88 → ⊥) → (b ≡ 87 → ⊥) → (b ≡ 84 → ⊥) → false ≡ known b
-known-none b h s x w t = rw (ne-eqb b 72 h, ne-eqb b 83 s, ne-eqb b 88 x, ne-eqb b 87 w, ne-eqb b 84 t)
+-- by its number
+pub numbered-in : (b n : ℕ) → n ≡ letterNumber (letterOf b) → n ≤ 4 → In job3 b
+numbered-in b n e h = known-in b (number-known (letterOf b) (omega (arith, e)))
+
+pub numbered-out : (b n : ℕ) → n ≡ letterNumber (letterOf b) → 4 < n → In job3 b → ⊥
+numbered-out b n e h = unknown-out b (number-unknown (letterOf b) (omega (arith, e)))
 
 -- ---- a word
 abbrev pub Inside : List ℕ → ℕ → Type 0
 Inside w n = (i : ℕ) → i < n → In job3 (getD w i 0)
 
-abbrev pub Scanned : List ℕ → Letters → Type 0
-Scanned w Letters.Known = Inside w (length w)
-Scanned w (Letters.Outside p) = FirstOutside job3 w p
+abbrev pub Reads : List ℕ → List ℕ → Read → Type 0
+Reads w items (Read.Word r) = Inside w (length w) × Holds items r (run start (lettersOf w))
+Reads w items (Read.Outside p) = FirstOutside job3 w p
 
 pub inside-none : (w : List ℕ) → Inside w 0
 inside-none w = λ i h. absurd (omega arith)

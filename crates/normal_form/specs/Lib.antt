@@ -5,6 +5,9 @@ pub mod Words
 pub mod Tables
 pub mod Cliffords
 pub mod Readings
+pub mod Pairs
+pub mod Syllables
+pub mod Steps
 pub mod Held
 pub mod Outcome
 pub mod Letters

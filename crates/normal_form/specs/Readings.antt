@@ -98,20 +98,20 @@ run-ranged st (l ∷ u) h = run-ranged (read l st) u (read-ranged l st h)
 by-test : (u v : List Letter) → Same (word u) (word v) → u ≈ v
 by-test u v h = record { same = h }
 
-times-Clifford : (x y : Clifford) → Ranged x → Ranged y → letters x ++ letters y ≈ letters (mulC x y)
+pub times-Clifford : (x y : Clifford) → Ranged x → Ranged y → letters x ++ letters y ≈ letters (mulC x y)
 times-Clifford x y hx hy = by-sym (record { same = mul-right x y hx hy .same })
 
 -- a Clifford before the letters of another, given by a word with the same matrix
 gained : (c x : Clifford) (u v : List Letter) → Ranged c → Ranged x → letters c ≈ v → u ≈ v → u ++ letters x ≈ letters (mulC c x)
 gained c x u v hc hx h k = before (k ⨾ by-sym h) (letters x) ⨾ times-Clifford c x hc hx
 
-S-ranged : Ranged cliffordS
+pub S-ranged : Ranged cliffordS
 S-ranged = few 0 0 1 0 (omega arith) (omega arith) (omega arith) (omega arith)
 
-HS-ranged : Ranged cliffordHS
+pub HS-ranged : Ranged cliffordHS
 HS-ranged = few 1 0 2 5 (omega arith) (omega arith) (omega arith) (omega arith)
 
-SHS-ranged : Ranged cliffordSHS
+pub SHS-ranged : Ranged cliffordSHS
 SHS-ranged = few 2 0 1 3 (omega arith) (omega arith) (omega arith) (omega arith)
 
 tee-same : (a : Axis) (r : Clifford) (b : Bool) (ss : List Syllable) → Ranged r → prefix b ss ++ (axisWord a ++ (T′ ∷ letters r)) ≈ text (tee a r b ss)

@@ -117,20 +117,20 @@ abbrev pub tconj : ℕ → Tconj
 tconj i = getD tconj-rows i (record { axis = Axis.I; c = 0; d = 0 })
 
 -- ---- a test at every number below n
-abbrev all : ℕ → (ℕ → Bool) → Bool
+abbrev pub all : ℕ → (ℕ → Bool) → Bool
 all zero f = true
 all (suc n) f = f 0 && all n (λ k. f (suc k))
 
-at : (n : ℕ) (f : ℕ → Bool) → T (all n f) → (k : ℕ) → k < n → T (f k)
+pub at : (n : ℕ) (f : ℕ → Bool) → T (all n f) → (k : ℕ) → k < n → T (f k)
 at zero f t k h = absurd (omega arith)
 at (suc n) f t zero h = and-yes (f 0) (all n (λ k. f (suc k))) t .0
 at (suc n) f t (suc k) h = at n (λ k. f (suc k)) (and-yes (f 0) (all n (λ k. f (suc k))) t .1) k (omega arith)
 
 -- at each a, b and c of a Clifford
-abbrev all3 : (ℕ → ℕ → ℕ → Bool) → Bool
+abbrev pub all3 : (ℕ → ℕ → ℕ → Bool) → Bool
 all3 f = all 3 (λ a. all 2 (λ b. all 4 (λ c. f a b c)))
 
-at3 : (f : ℕ → ℕ → ℕ → Bool) → T (all3 f) → (a b c : ℕ) → a < 3 → b < 2 → c < 4 → T (f a b c)
+pub at3 : (f : ℕ → ℕ → ℕ → Bool) → T (all3 f) → (a b c : ℕ) → a < 3 → b < 2 → c < 4 → T (f a b c)
 at3 f t a b c ha hb hc = at 4 (λ c. f a b c) (at 2 (λ b. all 4 (λ c. f a b c)) (at 3 (λ a. all 2 (λ b. all 4 (λ c. f a b c))) t a ha) b hb) c hc
 
 by-test : (u v : List Letter) → T (sameTest (word u) (word v)) → u ≈ v

@@ -3,12 +3,16 @@ ghost use mathlib.Core.Path.{_≡_};
 ghost use Prim.Native.Nat.{_≤_};
 ghost use lib.ListN.{length};
 ghost use Rattle.normal_form.specs.Outcome.{Normalises, Shortens, Outcome, refused};
-ghost use Rattle.normal_form.specs.Letters.{known, Scanned};
+ghost use Rattle.normal_form.specs.Held.{Blank};
+ghost use Rattle.normal_form.specs.Steps.{Right};
 ghost use Rattle.normal_form.specs.Answers.{Answers};
 use reading::EMPTY;
+use reading::Read;
+use steps::TABLE;
 
 pub mod clifford;
 pub mod reading;
+pub mod steps;
 pub mod writing;
 
 // What jobs 3 and 5 hand back: the refusal or 0, its place, the bytes written and the T letters among them.
@@ -19,11 +23,8 @@ pub struct Written {
     pub tees: usize,
 }
 
-// Whether every byte is a letter of job 3, or the first place of one that is not.
-pub enum Letters {
-    Known,
-    Outside(usize),
-}
+// The most letters that are read in a short array, which is emptied sooner than the long one.
+const SHORT: usize = 64;
 
 fn refused(number: u8, place: usize) -> Written
     ensures { λ r. ⌜ r ≡ refused number place ⌝ }
@@ -36,30 +37,21 @@ fn refused(number: u8, place: usize) -> Written
     }
 }
 
-fn is_letter(b: u8) -> bool
-    ensures { λ r. ⌜ r ≡ known b ⌝ }
+// The answer to a word, by way of an empty array with a place for each letter.
+fn read_and_write(
+    table: &[u16],
+    items: &mut [u8],
+    word: &[u8],
+    phase: bool,
+    buf: &mut [u8],
+) -> Written
+    requires { ⌜ Right (now table) ⌝ ∗ ⌜ Blank (now items) ⌝ ∗ ⌜ (length (now word) ≤ 4096) × (length (now word) ≤ length (now items)) ⌝ }
+    ensures { λ r. ⌜ Outcome (Answers phase) (now (word .entry)) (now (buf .entry)) r (now (buf .exit)) ⌝ }
 {
-    match b {
-        b'H' => true,
-        b'S' => true,
-        b'X' => true,
-        b'W' => true,
-        b'T' => true,
-        _ => false,
+    match reading::read_word(table, items, word) {
+        Read::Outside(place) => refused(exact::LETTER, place),
+        Read::Word(r) => writing::write(table, items, r, phase, buf),
     }
-}
-
-fn first_outside(word: &[u8]) -> Letters
-    ensures { λ r. ⌜ Scanned (now (word .entry)) r ⌝ }
-{
-    let mut i: usize = 0;
-    while i < word.len() {
-        if !is_letter(word[i]) {
-            return Letters::Outside(i);
-        }
-        i += 1;
-    }
-    Letters::Known
 }
 
 // Jobs 3 and 5: with the final W letters, or without.
@@ -69,14 +61,13 @@ fn answer(word: &[u8], phase: bool, buf: &mut [u8]) -> Written
     if word.len() > exact::LONGEST {
         return refused(exact::LONG, 0);
     }
-    match first_outside(word) {
-        Letters::Outside(place) => refused(exact::LETTER, place),
-        Letters::Known => {
-            let mut items = [EMPTY; 4096];
-            let r = reading::read_word(&mut items, word);
-            writing::write(&items, r, phase, buf)
-        }
+    let table = TABLE;
+    if word.len() > SHORT {
+        let mut items = [EMPTY; 4096];
+        return read_and_write(&table, &mut items, word, phase, buf);
     }
+    let mut items = [EMPTY; 64];
+    read_and_write(&table, &mut items, word, phase, buf)
 }
 
 // Job 3: the normal word with the word's matrix.

@@ -6,17 +6,18 @@ ghost use Prim.Native.Nat.{_+_, _≤_, _<_};
 ghost use lib.Dec.{eqb};
 ghost use lib.ListN.{length, replicate, take};
 ghost use Rattle.exact.specs.Meaning.Word.{bytes};
-ghost use Rattle.normal_form.specs.Job6.{Ranged};
-ghost use Rattle.normal_form.specs.Held.{syllableWord, Readable};
+ghost use Rattle.normal_form.specs.Steps.{Right, Fits, tailOf};
+ghost use Rattle.normal_form.specs.Held.{Readable};
+ghost use Rattle.normal_form.specs.Syllables.{syllableWord};
 ghost use Rattle.normal_form.specs.Put.{Put};
 ghost use Rattle.normal_form.specs.Endings.{essesOf, aitchesOf, endWord, endSize, endingOf, Ended};
 ghost use Rattle.normal_form.specs.Answers.{codesWord, Writes};
 use crate::Written;
 use crate::clifford::Axis;
-use crate::clifford::Clifford;
 use crate::reading::Reading;
 use crate::reading::Syllable;
 use crate::refused;
+use crate::steps::Tail;
 
 // How often each letter stands in a tail: S, H, I, X, S and W, in this order.
 pub struct Ending {
@@ -67,11 +68,11 @@ fn kept(phase: bool, w: usize) -> usize
     if phase { w } else { 0 }
 }
 
-fn ending_of(q: Clifford, phase: bool) -> Ending
-    requires { ⌜ Ranged q ⌝ }
-    ensures { λ r. ⌜ Ended phase q r ⌝ }
+fn ending_of(table: &[u16], t: Tail, phase: bool) -> Ending
+    requires { ⌜ Right (now table) ⌝ ∗ ⌜ Fits t ⌝ }
+    ensures { λ r. ⌜ Ended phase (tailOf t) r ⌝ }
 {
-    let split = q.decompose_coset();
+    let split = t.split(table);
     let axis = split.axis;
     let rest = split.rest;
     let first = esses(axis);
@@ -147,8 +148,8 @@ fn put_syllable(buf: &mut [u8], at: usize, s: Syllable) -> usize
     }
 }
 
-fn put_syllables(buf: &mut [u8], items: &[u8; 4096], count: usize) -> usize
-    requires { ⌜ (length (now items) ≡ 4096) × (count ≤ 4096) × (length (codesWord (take count (now items))) ≤ length (now buf)) ⌝ }
+fn put_syllables(buf: &mut [u8], items: &[u8], count: usize) -> usize
+    requires { ⌜ (count ≤ length (now items)) × (length (codesWord (take count (now items))) ≤ length (now buf)) ⌝ }
     ensures { λ r. ⌜ Put (now (buf .entry)) 0 (bytes (codesWord (take count (now (items .entry))))) (now (buf .exit)) r ⌝ }
 {
     let mut at: usize = 0;
@@ -177,13 +178,13 @@ pub fn put_ending(buf: &mut [u8], at: usize, e: Ending) -> usize
 }
 
 // The word of a reading, if there is room for it.
-pub fn write(items: &[u8; 4096], r: Reading, phase: bool, buf: &mut [u8]) -> Written
-    requires { ⌜ Readable (now items) r ⌝ ∗ ⌜ r .count ≤ 4096 ⌝ }
+pub fn write(table: &[u16], items: &[u8], r: Reading, phase: bool, buf: &mut [u8]) -> Written
+    requires { ⌜ Right (now table) ⌝ ∗ ⌜ Readable (now items) r ⌝ ∗ ⌜ r .count ≤ 4096 ⌝ }
     ensures { λ n. ⌜ Writes phase (now (items .entry)) r (now (buf .entry)) n (now (buf .exit)) ⌝ }
 {
     let tail = r.tail;
     let count = r.count;
-    let e = ending_of(tail, phase);
+    let e = ending_of(table, tail, phase);
     let n = r.bytes + e.size();
     if n > buf.len() {
         return refused(exact::ROOM, 0);

@@ -2,11 +2,12 @@
 use native.Mathlib.Omega.{arith}
 use borrow.Author.Needs.{needs}
 use Rattle.normal_form.specs.Endings.{split-few, ended}
+use Rattle.normal_form.specs.Steps.{fits-ranged, tailOf}
 use Rattle.normal_form.proofs.writing.ending_of.Statement.{statement}
 use Rattle.normal_form.proofs.writing.ending_of.Tie as tie
 
-decompose-coset-requires : tie.Need-decompose-coset-requires
-decompose-coset-requires c κs = search needs
+split-requires : tie.Need-split-requires
+split-requires c κs = search needs
 
 esses-requires : tie.Need-esses-requires
 esses-requires c κs = search needs
@@ -25,31 +26,31 @@ wide-requires-3 c κs = search needs
 
 add-one-if-none : tie.Need-add-one-if-none
 add-one-if-none c =
-    let the-args = c .before .before .before .before .before .before .before .args in
-    let the-decompose-coset = c .before .before .before .before .before .before .decompose-coset in
-    let the-pre = c .before .before .before .before .before .before .before .pre in
-    omega (arith, split-few (the-args .q) (the-decompose-coset .result) (the-pre) (the-decompose-coset .ensures), c .before .before .before .before .esses .ensures, c .before .before .before .aitches .ensures, c .before .before .wide .ensures, c .before .wide2 .ensures, c .wide3 .ensures)
+    let the-args = c .before .before .before .before .before .before .before .before .args in
+    let the-split = c .before .before .before .before .before .before .split in
+    let the-pre = c .before .before .before .before .before .before .before .before .pre in
+    omega (arith, split-few (tailOf (the-args .t)) (the-split .result) (fits-ranged (the-args .t) (the-pre .1)) (the-split .ensures), c .before .before .before .before .esses .ensures, c .before .before .before .aitches .ensures, c .before .before .wide .ensures, c .before .wide2 .ensures, c .wide3 .ensures)
 
 add-one-if-none-2 : tie.Need-add-one-if-none-2
 add-one-if-none-2 c =
-    let the-args = c .before .before .before .before .before .before .before .args in
-    let the-decompose-coset = c .before .before .before .before .before .before .decompose-coset in
-    let the-pre = c .before .before .before .before .before .before .before .pre in
-    omega (arith, split-few (the-args .q) (the-decompose-coset .result) (the-pre) (the-decompose-coset .ensures), c .before .before .before .before .esses .ensures, c .before .before .before .aitches .ensures, c .before .before .wide .ensures, c .before .wide2 .ensures, c .wide3 .ensures)
+    let the-args = c .before .before .before .before .before .before .before .before .args in
+    let the-split = c .before .before .before .before .before .before .split in
+    let the-pre = c .before .before .before .before .before .before .before .before .pre in
+    omega (arith, split-few (tailOf (the-args .t)) (the-split .result) (fits-ranged (the-args .t) (the-pre .1)) (the-split .ensures), c .before .before .before .before .esses .ensures, c .before .before .before .aitches .ensures, c .before .before .wide .ensures, c .before .wide2 .ensures, c .wide3 .ensures)
 
 add-one-if-none-3 : tie.Need-add-one-if-none-3
 add-one-if-none-3 c =
-    let the-args = c .before .before .before .before .before .before .before .args in
-    let the-decompose-coset = c .before .before .before .before .before .before .decompose-coset in
-    let the-pre = c .before .before .before .before .before .before .before .pre in
-    omega (arith, split-few (the-args .q) (the-decompose-coset .result) (the-pre) (the-decompose-coset .ensures), c .before .before .before .before .esses .ensures, c .before .before .before .aitches .ensures, c .before .before .wide .ensures, c .before .wide2 .ensures, c .wide3 .ensures)
+    let the-args = c .before .before .before .before .before .before .before .before .args in
+    let the-split = c .before .before .before .before .before .before .split in
+    let the-pre = c .before .before .before .before .before .before .before .before .pre in
+    omega (arith, split-few (tailOf (the-args .t)) (the-split .result) (fits-ranged (the-args .t) (the-pre .1)) (the-split .ensures), c .before .before .before .before .esses .ensures, c .before .before .before .aitches .ensures, c .before .before .wide .ensures, c .before .wide2 .ensures, c .wide3 .ensures)
 
 add-one-if-none-4 : tie.Need-add-one-if-none-4
 add-one-if-none-4 c =
-    let the-args = c .before .before .before .before .before .before .before .args in
-    let the-decompose-coset = c .before .before .before .before .before .before .decompose-coset in
-    let the-pre = c .before .before .before .before .before .before .before .pre in
-    omega (arith, split-few (the-args .q) (the-decompose-coset .result) (the-pre) (the-decompose-coset .ensures), c .before .before .before .before .esses .ensures, c .before .before .before .aitches .ensures, c .before .before .wide .ensures, c .before .wide2 .ensures, c .wide3 .ensures)
+    let the-args = c .before .before .before .before .before .before .before .before .args in
+    let the-split = c .before .before .before .before .before .before .split in
+    let the-pre = c .before .before .before .before .before .before .before .before .pre in
+    omega (arith, split-few (tailOf (the-args .t)) (the-split .result) (fits-ranged (the-args .t) (the-pre .1)) (the-split .ensures), c .before .before .before .before .esses .ensures, c .before .before .before .aitches .ensures, c .before .before .wide .ensures, c .before .wide2 .ensures, c .wide3 .ensures)
 
 one-if-none-requires : tie.Need-one-if-none-requires
 one-if-none-requires c κs = search needs
@@ -59,21 +60,21 @@ kept-requires c κs = search needs
 
 returns : tie.Need-returns
 returns c =
-    let the-args = c .before .before .before .before .before .before .before .before .before .args in
-    let the-decompose-coset = c .before .before .before .before .before .before .before .before .decompose-coset in
+    let the-args = c .before .before .before .before .before .before .before .before .before .before .args in
+    let the-split = c .before .before .before .before .before .before .before .before .split in
     let the-esses = c .before .before .before .before .before .before .esses in
     let the-aitches = c .before .before .before .before .before .aitches in
     let the-wide = c .before .before .before .before .wide in
     let the-wide2 = c .before .before .before .wide2 in
     let the-wide3 = c .before .before .wide3 in
-    let the-pre = c .before .before .before .before .before .before .before .before .before .pre in
-    ended (the-args .phase) (the-args .q) (the-decompose-coset .result) (the-esses .result) (the-aitches .result) (c .before .one-if-none .result) (the-wide .result) (the-wide2 .result) (the-wide3 .result) (c .kept .result) (the-pre) (the-decompose-coset .ensures) (the-esses .ensures) (the-aitches .ensures) (the-wide .ensures) (the-wide2 .ensures) (the-wide3 .ensures) (c .before .one-if-none .ensures) (c .kept .ensures)
+    let the-pre = c .before .before .before .before .before .before .before .before .before .before .pre in
+    ended (the-args .phase) (tailOf (the-args .t)) (the-split .result) (the-esses .result) (the-aitches .result) (c .before .one-if-none .result) (the-wide .result) (the-wide2 .result) (the-wide3 .result) (c .kept .result) (fits-ranged (the-args .t) (the-pre .1)) (the-split .ensures) (the-esses .ensures) (the-aitches .ensures) (the-wide .ensures) (the-wide2 .ensures) (the-wide3 .ensures) (c .before .one-if-none .ensures) (c .kept .ensures)
 
 pub ending-of-spec : {M : Type 1} → statement M
 ending-of-spec =
     tie.close
     (tie.spec
-    decompose-coset-requires
+    split-requires
     esses-requires
     aitches-requires
     wide-requires

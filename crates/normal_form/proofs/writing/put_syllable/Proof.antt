@@ -5,7 +5,7 @@ use native.Mathlib.Omega.{arith}
 use borrow.Author.Needs.{needs}
 use denote.Ref.{now}
 use lib.ListN.{length}
-use Rattle.normal_form.specs.Held.{syllableWord}
+use Rattle.normal_form.specs.Syllables.{syllableWord}
 use Rattle.normal_form.specs.Put.{put-none, put-more}
 use Rattle.normal_form.specs.declared.reading.Syllable.{Syllable}
 use Rattle.normal_form.proofs.writing.put_syllable.Statement.{statement}

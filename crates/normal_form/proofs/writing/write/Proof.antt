@@ -4,7 +4,7 @@ use borrow.Author.Needs.{needs}
 use denote.Ref.{now}
 use lib.ListN.{take}
 use Rattle.normal_form.specs.Answers.{codesWord, bytes-length, no-room, write-room, written}
-use Rattle.normal_form.specs.Held.{bytes-most}
+use Rattle.normal_form.specs.Held.{bytes-most, count-within}
 use Rattle.normal_form.proofs.writing.write.Statement.{statement}
 use Rattle.normal_form.proofs.writing.write.Tie as tie
 
@@ -16,7 +16,7 @@ size-requires c κs = search needs
 
 add-n : tie.Need-add-n
 add-n c =
-    let the-pre = c .before .before .before .before .before .pre in
+    let the-pre = c .before .before .before .before .before .before .before .pre .1 in
     omega (arith, bytes-most (the-pre .0 .holds) (the-pre .1), c .before .size .ensures, c .before .before .ending-of .ensures .few)
 
 refused-requires : tie.Need-refused-requires
@@ -24,24 +24,24 @@ refused-requires c κs = search needs
 
 returns : tie.Need-returns
 returns c =
-    let the-args = c .before .before .before .before .before .before .before .args in
+    let the-args = c .before .before .before .before .before .before .before .before .before .args in
     let the-ending-of = c .before .before .before .before .ending-of in
     let the-size = c .before .before .before .size in
     no-room (the-args .phase) (now (the-args .items)) (the-args .r) (now (the-args .buf)) (the-ending-of .result) (the-ending-of .ensures .is) (the-size .result) (c .refused .result) (the-size .ensures) (c .before .if1 .taken) (c .refused .ensures)
 
 put-syllables-requires : tie.Need-put-syllables-requires
 put-syllables-requires c κs =
-    let the-pre = c .before .before .before .before .before .before .before .pre in
-    let the-args = c .before .before .before .before .before .before .before .args in
+    let the-pre = c .before .before .before .before .before .before .before .before .before .pre .1 in
+    let the-args = c .before .before .before .before .before .before .before .before .before .args in
     let the-ending-of = c .before .before .before .before .ending-of in
     let the-size = c .before .before .before .size in
-    (the-pre .0 .holds .array .room, the-pre .1, omega (arith, write-room (the-args .phase) (now (the-args .items)) (the-args .r) (now (the-args .buf)) (the-ending-of .result) (the-ending-of .ensures .is) (the-pre .0 .st) (the-pre .0 .holds) (the-size .result) (the-size .ensures) (c .before .if1 .left), bytes-length (codesWord (take (the-args .r .count) (now (the-args .items))))))
+    (count-within (the-pre .0 .holds), omega (arith, write-room (the-args .phase) (now (the-args .items)) (the-args .r) (now (the-args .buf)) (the-ending-of .result) (the-ending-of .ensures .is) (the-pre .0 .st) (the-pre .0 .holds) (the-size .result) (the-size .ensures) (c .before .if1 .left), bytes-length (codesWord (take (the-args .r .count) (now (the-args .items))))))
 
 put-ending-requires : tie.Need-put-ending-requires
 put-ending-requires c κs =
-    let the-args = c .before .before .before .before .before .before .before .before .before .before .before .args in
+    let the-args = c .before .before .before .before .before .before .before .before .before .before .before .before .before .args in
     let the-ending-of = c .before .before .before .before .before .before .before .before .ending-of in
-    let the-pre = c .before .before .before .before .before .before .before .before .before .before .before .pre in
+    let the-pre = c .before .before .before .before .before .before .before .before .before .before .before .before .before .pre .1 in
     let the-size = c .before .before .before .before .before .before .before .size in
     let the-if1 = c .before .before .before .before .before .if1 in
     let the-put-syllables = c .before .before .before .put-syllables in
@@ -52,7 +52,7 @@ same-length c = search needs
 
 returns-2 : tie.Need-returns-2
 returns-2 c =
-    let the-args = c .before .before .before .before .before .before .before .before .before .before .before .before .before .before .args in
+    let the-args = c .before .before .before .before .before .before .before .before .before .before .before .before .before .before .before .before .args in
     let the-ending-of = c .before .before .before .before .before .before .before .before .before .before .before .ending-of in
     let the-size = c .before .before .before .before .before .before .before .before .before .before .size in
     let the-put-syllables = c .before .before .before .before .before .before .put-syllables in

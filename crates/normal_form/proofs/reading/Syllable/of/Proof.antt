@@ -1,5 +1,5 @@
 -- `normal_form::reading::Syllable::of` meets its contract. Assumes nothing.
-use Rattle.normal_form.specs.Held.{syllable-none}
+use Rattle.normal_form.specs.Syllables.{syllable-none}
 use Rattle.normal_form.proofs.reading.Syllable.of.Statement.{statement}
 use Rattle.normal_form.proofs.reading.Syllable.of.Tie as tie
 

@@ -1,0 +1,42 @@
+-- `normal_form::steps::Tail::split` meets its contract. Assumes nothing.
+use borrow.Author.Needs.{needs}
+use denote.Ref.{now}
+use Rattle.normal_form.specs.Steps.{split-at}
+use Rattle.normal_form.proofs.steps.Tail.split.Statement.{statement}
+use Rattle.normal_form.proofs.steps.Tail.split.Tie as tie
+
+cast-row : tie.Need-cast-row
+cast-row c = search needs
+
+add-row : tie.Need-add-row
+add-row c = search needs
+
+mul-row : tie.Need-mul-row
+mul-row c = search needs
+
+shared-slice-read-row : tie.Need-shared-slice-read-row
+shared-slice-read-row c = search needs
+
+moved-requires : tie.Need-moved-requires
+moved-requires c κs = search needs
+
+axis-at-requires : tie.Need-axis-at-requires
+axis-at-requires c κs = search needs
+
+returns : tie.Need-returns
+returns c =
+    let a = c .before .before .before .before .before .before .args in
+    let the-pre = c .before .before .before .before .before .before .pre in
+    split-at (now (a .table)) (the-pre .0) (a .self) (the-pre .1) (c .axis-at .result) (c .before .before .moved .result) (c .axis-at .ensures) (c .before .before .moved .ensures)
+
+pub split-spec : {M : Type 1} → statement M
+split-spec =
+    tie.close
+    (tie.spec
+    cast-row
+    add-row
+    mul-row
+    shared-slice-read-row
+    moved-requires
+    axis-at-requires
+    returns)

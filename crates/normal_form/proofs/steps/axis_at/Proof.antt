@@ -1,0 +1,17 @@
+-- `normal_form::steps::axis_at` meets its contract. Assumes nothing.
+use borrow.Author.Needs.{needs}
+use Rattle.normal_form.specs.Steps.{axis-last}
+use Rattle.normal_form.proofs.steps.axis_at.Statement.{statement}
+use Rattle.normal_form.proofs.steps.axis_at.Tie as tie
+
+returns : tie.Need-returns
+returns c = search needs
+
+returns-2 : tie.Need-returns-2
+returns-2 c = search needs
+
+returns-3 : tie.Need-returns-3
+returns-3 c = axis-last (c .before .args .a) (c .match .rest .0 .1) (c .match .rest .1)
+
+pub axis-at-spec : {M : Type 1} → statement M
+axis-at-spec = tie.close (tie.spec returns returns-2 returns-3)

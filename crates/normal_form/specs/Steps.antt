@@ -1,0 +1,226 @@
+-- The table of two letters, of syllables that a T meets, of Cliffords less their axes and of the letters' numbers: each part proved right by one computed
+-- test over its rows. Assumes nothing.
+use mathlib.Core.Path.{_≡_, refl, sym, _∙_, ap, ap₂, subst}
+use mathlib.Core.Bool.{Bool, true, false, cond, _&&_}
+use mathlib.Core.List.{List}
+use Prim.Native.Nat.{ℕ, zero, suc, _+_, _-_, _*_, _/_, _%_, _<_, _≤_}
+use native.Mathlib.Omega.{arith}
+use borrow.Author.Tests.{ne-eqb}
+use lib.Dec.{T, ltb, ltb→lt, eqb, eqb→eq}
+use lib.ListN.{getD, length}
+use mir.Facts.{and-yes}
+use Rattle.exact.specs.Meaning.Word.{Letter, I, H, S, X, W, T′, job3}
+use Rattle.exact.specs.Cases.Letters.{letterOf}
+use Rattle.normal_form.specs.declared.clifford.Axis.{Axis}
+use Rattle.normal_form.specs.declared.clifford.Axis.the-variants as Axis
+use Rattle.normal_form.specs.declared.clifford.Clifford.{Clifford}
+use Rattle.normal_form.specs.declared.clifford.Coset.{Coset}
+use Rattle.normal_form.specs.declared.steps.Step.{Step}
+use Rattle.normal_form.specs.declared.steps.Tail.{Tail}
+use Rattle.normal_form.specs.Job6.{Ranged, axisNumber, axis-at}
+use Rattle.normal_form.specs.Tables.{quadruple, all, at}
+use Rattle.normal_form.specs.Cliffords.{mulC, tconjC, splitC, split-right}
+use Rattle.normal_form.specs.Pairs.{kind₂, next₂, kind-few, eqClifford, eqClifford-is}
+use Rattle.normal_form.specs.Syllables.{syllableOf, made}
+
+-- ---- a letter's number
+abbrev pub letterNumber : Letter → ℕ
+letterNumber H = 0
+letterNumber S = 1
+letterNumber X = 2
+letterNumber W = 3
+letterNumber T′ = 4
+letterNumber I = 5
+
+abbrev pub letterAt : ℕ → Letter
+letterAt n = cond (eqb n 0) H (cond (eqb n 1) S (cond (eqb n 2) X (cond (eqb n 3) W (cond (eqb n 4) T′ I))))
+
+pub letterAt-is : (l : Letter) → letterAt (letterNumber l) ≡ l
+letterAt-is H = refl
+letterAt-is S = refl
+letterAt-is X = refl
+letterAt-is W = refl
+letterAt-is T′ = refl
+letterAt-is I = refl
+
+pub number-few : (l : Letter) → letterNumber l < 6
+number-few H = omega arith
+number-few S = omega arith
+number-few X = omega arith
+number-few W = omega arith
+number-few T′ = omega arith
+number-few I = omega arith
+
+-- only the five letters of job 3 have a number below 5
+pub number-known : (l : Letter) → letterNumber l ≤ 4 → job3 l ≡ true
+number-known H h = refl
+number-known S h = refl
+number-known X h = refl
+number-known W h = refl
+number-known T′ h = refl
+number-known I h = absurd (omega arith)
+
+pub number-unknown : (l : Letter) → 4 < letterNumber l → job3 l ≡ false
+number-unknown H h = absurd (omega arith)
+number-unknown S h = absurd (omega arith)
+number-unknown X h = absurd (omega arith)
+number-unknown W h = absurd (omega arith)
+number-unknown T′ h = absurd (omega arith)
+number-unknown I h = refl
+
+-- ---- a Clifford by its code and its phase
+abbrev pub cliffordAt : ℕ → ℕ → Clifford
+cliffordAt g p = quadruple (g / 8) (g / 4 % 2) (g % 4) p
+
+abbrev pub tailOf : Tail → Clifford
+tailOf t = cliffordAt (t .code) (t .phase)
+
+pub record Fits (t : Tail) : Type 0 where
+  pub code-few : t .code < 24
+  pub phase-few : t .phase < 8
+
+pub fits-ranged : (t : Tail) → Fits t → Ranged (tailOf t)
+fits-ranged t h = record { a-few = omega (arith, h .code-few); b-few = omega arith; c-few = omega arith; d-few = h .phase-few }
+
+-- the Clifford that an entry gives
+abbrev pub moved : Tail → ℕ → Tail
+moved t e = record { code = e % 32; phase = (t .phase + e / 32 % 8) % 8 }
+
+abbrev gives : ℕ → ℕ → Clifford → Bool
+gives e p q = ltb (e % 32) 24 && eqClifford (cliffordAt (e % 32) ((p + e / 32 % 8) % 8)) q
+
+given : (e : ℕ) (t : Tail) (q : Clifford) → T (gives e (t .phase) q) → Fits (moved t e) × (tailOf (moved t e) ≡ q)
+given e t q h =
+    let s = and-yes (ltb (e % 32) 24) (eqClifford (tailOf (moved t e)) q) h in
+    (record { code-few = ltb→lt (e % 32) 24 (s .0); phase-few = omega arith }, eqClifford-is (tailOf (moved t e)) q (s .1))
+
+-- ---- the parts of the table
+abbrev pairTest : ℕ → Letter → Letter → ℕ → ℕ → Bool
+pairTest e l m g p = eqb (e / 256) (kind₂ l m (cliffordAt g p)) && gives e p (next₂ l m (cliffordAt g p))
+
+abbrev pairsTest : List ℕ → Bool
+pairsTest rows = all 6 (λ l. all 6 (λ m. all 24 (λ g. all 8 (pairTest (getD rows ((l * 6 + m) * 24 + g) 0) (letterAt l) (letterAt m) g))))
+
+abbrev syllablesTest : List ℕ → Bool
+syllablesTest rows = all 4 (λ s. all 24 (λ g. all 8 (λ p. gives (getD rows (864 + s * 24 + g) 0) p (mulC (made (syllableOf s)) (cliffordAt g p)))))
+
+abbrev axesTest : List ℕ → Bool
+axesTest rows = all 24 (λ g. all 8 (λ p. gives (getD rows (960 + g) 0) p (splitC (cliffordAt g p) .rest)))
+
+abbrev lettersTest : List ℕ → Bool
+lettersTest rows = all 17 (λ k. eqb (getD rows (984 + k) 0) (letterNumber (letterOf (k + 72))))
+
+pub record Right (rows : List ℕ) : Type 0 where
+  pub long : length rows ≡ 1001
+  pub pairs : T (pairsTest rows)
+  pub syllables : T (syllablesTest rows)
+  pub axes : T (axesTest rows)
+  pub letters : T (lettersTest rows)
+
+pub right : (rows : List ℕ) → length rows ≡ 1001 → T ((pairsTest rows && syllablesTest rows) && (axesTest rows && lettersTest rows)) → Right rows
+right rows l t =
+    let s = and-yes (pairsTest rows && syllablesTest rows) (axesTest rows && lettersTest rows) t in
+    let u = and-yes (pairsTest rows) (syllablesTest rows) (s .0) in
+    let v = and-yes (axesTest rows) (lettersTest rows) (s .1) in
+    record { long = l; pairs = u .0; syllables = u .1; axes = v .0; letters = v .1 }
+
+-- ---- two letters
+pub record Stepped (l m : Letter) (t : Tail) (r : Step) : Type 0 where
+  pub kind-is : r .kind ≡ kind₂ l m (tailOf t)
+  pub tail-is : tailOf (r .tail) ≡ next₂ l m (tailOf t)
+  pub fits : Fits (r .tail)
+
+module _ (rows : List ℕ) (right : Right rows) (t : Tail) (h : Fits t) where
+  pub stepped : (first second : ℕ) → first < 6 → second < 6 → (r : Step) → r .kind ≡ getD rows ((first * 6 + second) * 24 + t .code) 0 / 256 → r .tail ≡ moved t (getD rows ((first * 6 + second) * 24 + t .code) 0) → Stepped (letterAt first) (letterAt second) t r
+  stepped first second hf hs r k e = record { kind-is = k ∙ eqb→eq (row / 256) (kind₂ l m (tailOf t)) (s .0); tail-is = ap tailOf e ∙ g .1; fits = subst Fits (sym e) (g .0) }
+    where
+      row : ℕ
+      row = getD rows ((first * 6 + second) * 24 + t .code) 0
+
+      l : Letter
+      l = letterAt first
+
+      m : Letter
+      m = letterAt second
+
+      here : ℕ → ℕ → ℕ → ℕ → Bool
+      here l m g p = pairTest (getD rows ((l * 6 + m) * 24 + g) 0) (letterAt l) (letterAt m) g p
+
+      s : T (eqb (row / 256) (kind₂ l m (tailOf t))) × T (gives row (t .phase) (next₂ l m (tailOf t)))
+      s =
+          and-yes (eqb (row / 256) (kind₂ l m (tailOf t))) (gives row (t .phase) (next₂ l m (tailOf t)))
+          (at 8 (here first second (t .code))
+          (at 24 (λ g. all 8 (here first second g))
+          (at 6 (λ m. all 24 (λ g. all 8 (here first m g)))
+          (at 6 (λ l. all 6 (λ m. all 24 (λ g. all 8 (here l m g)))) (right .pairs) first hf) second hs) (t .code) (h .code-few)) (t .phase) (h .phase-few))
+
+      g : Fits (moved t row) × (tailOf (moved t row) ≡ next₂ l m (tailOf t))
+      g = given row t (next₂ l m (tailOf t)) (s .1)
+
+  pub row-kind : (first second : ℕ) → first < 6 → second < 6 → getD rows ((first * 6 + second) * 24 + t .code) 0 / 256 ≤ 3
+  row-kind first second hf hs =
+      let e = getD rows ((first * 6 + second) * 24 + t .code) 0 in
+      omega (arith, stepped first second hf hs (record { kind = e / 256; tail = moved t e }) refl refl .kind-is, kind-few (letterAt first) (letterAt second) (tailOf t))
+
+  -- ---- a syllable that a T meets
+  pub syllable-row : (s : ℕ) → s < 4 → Fits (moved t (getD rows (864 + s * 24 + t .code) 0)) × (tailOf (moved t (getD rows (864 + s * 24 + t .code) 0)) ≡ mulC (made (syllableOf s)) (tailOf t))
+  syllable-row s k =
+      given (getD rows (864 + s * 24 + t .code) 0) t (mulC (made (syllableOf s)) (tailOf t))
+      (at 8 (here s (t .code)) (at 24 (λ g. all 8 (here s g)) (at 4 (λ s. all 24 (λ g. all 8 (here s g))) (right .syllables) s k) (t .code) (h .code-few)) (t .phase) (h .phase-few))
+    where
+      here : ℕ → ℕ → ℕ → Bool
+      here s g p = gives (getD rows (864 + s * 24 + g) 0) p (mulC (made (syllableOf s)) (cliffordAt g p))
+
+  -- ---- a Clifford less its axis
+  pub axis-row : tailOf (moved t (getD rows (960 + t .code) 0)) ≡ splitC (tailOf t) .rest
+  axis-row =
+      given (getD rows (960 + t .code) 0) t (splitC (tailOf t) .rest)
+      (at 8 (here (t .code)) (at 24 (λ g. all 8 (here g)) (right .axes) (t .code) (h .code-few)) (t .phase) (h .phase-few))
+      .1
+    where
+      here : ℕ → ℕ → Bool
+      here g p = gives (getD rows (960 + g) 0) p (splitC (cliffordAt g p) .rest)
+
+pub record Gained (s : ℕ) (t r : Tail) : Type 0 where
+  pub tail-is : tailOf r ≡ mulC (made (syllableOf s)) (tailOf t)
+  pub fits : Fits r
+
+pub gained : (rows : List ℕ) → Right rows → (t : Tail) → Fits t → (s : ℕ) → s < 4 → (r : Tail) → r ≡ moved t (getD rows (864 + s * 24 + t .code) 0) → Gained s t r
+gained rows right t h s k r e = let g = syllable-row rows right t h s k in rw e (record { tail-is = g .1; fits = g .0 })
+
+abbrev pub axisAt : ℕ → Axis
+axisAt zero = Axis.I
+axisAt (suc zero) = Axis.H
+axisAt (suc (suc n)) = Axis.SH
+
+pub axis-last : (n : ℕ) → (n ≡ 0 → ⊥) → (n ≡ 1 → ⊥) → Axis.SH ≡ axisAt n
+axis-last zero f g = absurd (f refl)
+axis-last (suc zero) f g = absurd (g refl)
+axis-last (suc (suc n)) f g = refl
+
+pub split-at : (rows : List ℕ) → Right rows → (t : Tail) → Fits t → (axis : Axis) (rest : Tail) → axis ≡ axisAt (t .code / 8) → rest ≡ moved t (getD rows (960 + t .code) 0) → _≡_ {A = Coset} (record { axis = axis; rest = tailOf rest }) (splitC (tailOf t))
+split-at rows right t h axis rest e f = λ i. record { axis = axes i; rest = rests i }
+  where
+    number : (n : ℕ) → n < 3 → axisNumber (axisAt n) ≡ n
+    number zero l = refl
+    number (suc zero) l = refl
+    number (suc (suc zero)) l = refl
+    number (suc (suc (suc n))) l = absurd (omega arith)
+
+    axes : axis ≡ splitC (tailOf t) .axis
+    axes = e ∙ axis-at (axisAt (t .code / 8)) (splitC (tailOf t) .axis) (number (t .code / 8) (omega (arith, h .code-few)) ∙ sym (split-right (tailOf t) (fits-ranged t h) .axis-is))
+
+    rests : tailOf rest ≡ splitC (tailOf t) .rest
+    rests = ap tailOf f ∙ axis-row rows right t h
+
+-- ---- the number of a byte
+pub number-in : (rows : List ℕ) → Right rows → (b : ℕ) → 72 ≤ b → b ≤ 88 → getD rows (984 + (b - 72)) 0 ≡ letterNumber (letterOf b)
+number-in rows right b l h =
+    eqb→eq (getD rows (984 + (b - 72)) 0) (letterNumber (letterOf (b - 72 + 72))) (at 17 (λ k. eqb (getD rows (984 + k) 0) (letterNumber (letterOf (k + 72)))) (right .letters) (b - 72) (omega arith))
+    ∙ ap (λ n. letterNumber (letterOf n)) (back b l)
+  where
+    back : (b : ℕ) → 72 ≤ b → b - 72 + 72 ≡ b
+    back b l = omega arith
+
+pub number-out : (b : ℕ) → (b ≡ 72 → ⊥) → (b ≡ 83 → ⊥) → (b ≡ 88 → ⊥) → (b ≡ 87 → ⊥) → (b ≡ 84 → ⊥) → 5 ≡ letterNumber (letterOf b)
+number-out b h s x w t = rw (ne-eqb b 72 h, ne-eqb b 83 s, ne-eqb b 88 x, ne-eqb b 87 w, ne-eqb b 84 t)
