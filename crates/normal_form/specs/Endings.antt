@@ -2,13 +2,13 @@
 use mathlib.Core.Path.{_≡_, refl, sym, _∙_, ap, ap₂, subst}
 use mathlib.Core.Bool.{Bool, true, false, cond}
 use mathlib.Core.List.{List, [], _∷_, _++_, append-assoc, append-nil}
-use Prim.Native.Nat.{ℕ, zero, suc, _+_, _≤_}
-use native.Mathlib.Nat.{zero-add}
+use Prim.Native.Nat.{ℕ, zero, suc, _+_, _-_, _≤_, _<_}
+use native.Mathlib.Nat.{zero-add, suc-add}
 use native.Mathlib.Omega.{arith}
-use lib.Dec.{eqb}
-use lib.ListN.{length, length-append}
-use borrow.Author.Tests.{eqb-true, eqb-false, ne-eqb}
-use Rattle.exact.specs.Meaning.Word.{Letter, I, H, S, X, W, T′, tees}
+use lib.Dec.{eqb, ltb}
+use lib.ListN.{length, length-append, getD}
+use borrow.Author.Tests.{eqb-true, eqb-false, ne-eqb, ltb-true, ltb-false}
+use Rattle.exact.specs.Meaning.Word.{Letter, I, H, S, X, W, T′, byte, bytes, tees}
 use Rattle.exact.specs.Meaning.Normal.{times, tailWord, orI, leading, kept, lessFinalW, HT, SHT, Syllable}
 use Rattle.exact.specs.Unique.Tails.{tees-append}
 use Rattle.normal_form.specs.declared.clifford.Axis.{Axis}
@@ -36,6 +36,46 @@ endWord e = times (e .first) S ++ (times (e .h) H ++ (times (e .i) I ++ (times (
 abbrev pub endSize : Ending → ℕ
 endSize e = e .first + e .h + e .i + e .x + e .s + e .w
 
+-- ---- the letter at a place
+abbrev pub letterIn : Ending → ℕ → ℕ
+letterIn e j = cond (ltb j (e .first)) 83 (cond (ltb j (e .first + e .h)) 72 (cond (ltb j (e .first + e .h + e .i)) 73 (cond (ltb j (e .first + e .h + e .i + e .x)) 88 (cond (ltb j (e .first + e .h + e .i + e .x + e .s)) 83 87))))
+
+-- among some of one letter, or past them
+in-run : (n : ℕ) (l : Letter) (u : List Letter) (j : ℕ) → j < n → byte l ≡ getD (bytes (times n l ++ u)) j 0
+in-run zero l u j h = absurd (omega arith)
+in-run (suc n) l u zero h = refl
+in-run (suc n) l u (suc j) h = in-run n l u j (omega arith)
+
+past-run : (n : ℕ) (l : Letter) (u : List Letter) (j k : ℕ) → j ≡ n + k → getD (bytes u) k 0 ≡ getD (bytes (times n l ++ u)) j 0
+past-run zero l u j k e = ap (λ i. getD (bytes u) i 0) (sym (e ∙ zero-add k))
+past-run (suc n) l u j k e = subst (λ (i : ℕ). getD (bytes u) k 0 ≡ getD (bytes (times (suc n) l ++ u)) i 0) (sym (e ∙ suc-add n k)) (past-run n l u (n + k) k refl)
+
+-- place j of all is place k of these letters, which end at b
+run-next : (b n : ℕ) (l : Letter) (u : List Letter) (j k x : ℕ) → j + n ≡ k + b → (b ≤ j → x ≡ getD (bytes u) (j - b) 0) → cond (ltb j b) (byte l) x ≡ getD (bytes (times n l ++ u)) k 0
+run-next b n l u j k x h f = go (ltb j b) refl
+  where
+    go : (t : Bool) → ltb j b ≡ t → cond t (byte l) x ≡ getD (bytes (times n l ++ u)) k 0
+    go true e = in-run n l u k (omega (arith, ltb-true j b e))
+    go false e = f (ltb-false j b e) ∙ past-run n l u k (j - b) (omega (arith, ltb-false j b e))
+
+pub letter-in : (e : Ending) (j : ℕ) → j < endSize e → letterIn e j ≡ getD (bytes (endWord e)) j 0
+letter-in e j h = run-next (e .first) (e .first) S (times (e .h) H ++ (times (e .i) I ++ (times (e .x) X ++ (times (e .s) S ++ times (e .w) W)))) j j (cond (ltb j (e .first + e .h)) 72 (cond (ltb j (e .first + e .h + e .i)) 73 (cond (ltb j (e .first + e .h + e .i + e .x)) 88 (cond (ltb j (e .first + e .h + e .i + e .x + e .s)) 83 87)))) refl after₁
+  where
+    after₅ : e .first + e .h + e .i + e .x + e .s ≤ j → 87 ≡ getD (bytes (times (e .w) W)) (j - (e .first + e .h + e .i + e .x + e .s)) 0
+    after₅ k = in-run (e .w) W [] (j - (e .first + e .h + e .i + e .x + e .s)) (omega (arith, h, k)) ∙ ap (λ v. getD (bytes v) (j - (e .first + e .h + e .i + e .x + e .s)) 0) (append-nil (times (e .w) W))
+
+    after₄ : e .first + e .h + e .i + e .x ≤ j → cond (ltb j (e .first + e .h + e .i + e .x + e .s)) 83 87 ≡ getD (bytes (times (e .s) S ++ times (e .w) W)) (j - (e .first + e .h + e .i + e .x)) 0
+    after₄ k = run-next (e .first + e .h + e .i + e .x + e .s) (e .s) S (times (e .w) W) j (j - (e .first + e .h + e .i + e .x)) (87) (omega (arith, k)) after₅
+
+    after₃ : e .first + e .h + e .i ≤ j → cond (ltb j (e .first + e .h + e .i + e .x)) 88 (cond (ltb j (e .first + e .h + e .i + e .x + e .s)) 83 87) ≡ getD (bytes (times (e .x) X ++ (times (e .s) S ++ times (e .w) W))) (j - (e .first + e .h + e .i)) 0
+    after₃ k = run-next (e .first + e .h + e .i + e .x) (e .x) X (times (e .s) S ++ times (e .w) W) j (j - (e .first + e .h + e .i)) (cond (ltb j (e .first + e .h + e .i + e .x + e .s)) 83 87) (omega (arith, k)) after₄
+
+    after₂ : e .first + e .h ≤ j → cond (ltb j (e .first + e .h + e .i)) 73 (cond (ltb j (e .first + e .h + e .i + e .x)) 88 (cond (ltb j (e .first + e .h + e .i + e .x + e .s)) 83 87)) ≡ getD (bytes (times (e .i) I ++ (times (e .x) X ++ (times (e .s) S ++ times (e .w) W)))) (j - (e .first + e .h)) 0
+    after₂ k = run-next (e .first + e .h + e .i) (e .i) I (times (e .x) X ++ (times (e .s) S ++ times (e .w) W)) j (j - (e .first + e .h)) (cond (ltb j (e .first + e .h + e .i + e .x)) 88 (cond (ltb j (e .first + e .h + e .i + e .x + e .s)) 83 87)) (omega (arith, k)) after₃
+
+    after₁ : e .first ≤ j → cond (ltb j (e .first + e .h)) 72 (cond (ltb j (e .first + e .h + e .i)) 73 (cond (ltb j (e .first + e .h + e .i + e .x)) 88 (cond (ltb j (e .first + e .h + e .i + e .x + e .s)) 83 87))) ≡ getD (bytes (times (e .h) H ++ (times (e .i) I ++ (times (e .x) X ++ (times (e .s) S ++ times (e .w) W))))) (j - (e .first)) 0
+    after₁ k = run-next (e .first + e .h) (e .h) H (times (e .i) I ++ (times (e .x) X ++ (times (e .s) S ++ times (e .w) W))) j (j - (e .first)) (cond (ltb j (e .first + e .h + e .i)) 73 (cond (ltb j (e .first + e .h + e .i + e .x)) 88 (cond (ltb j (e .first + e .h + e .i + e .x + e .s)) 83 87))) (omega (arith, k)) after₂
+
 -- an empty tail is one I
 abbrev pub endingAt : Bool → Coset → Ending
 endingAt phase r =
@@ -50,6 +90,10 @@ endingAt phase r =
 
 abbrev pub endingOf : Bool → Clifford → Ending
 endingOf phase q = endingAt phase (splitC q)
+
+-- a size that a program's number holds
+abbrev pub Sized : ℕ → Type 0
+Sized n = n < 9223372036854775808
 
 pub record Ended (phase : Bool) (q : Clifford) (r : Ending) : Type 0 where
   pub is : r ≡ endingOf phase q

@@ -5,8 +5,8 @@ use Prim.Native.Nat.{ℕ, suc, _+_, _<_, _≤_}
 use native.Mathlib.Nat.{add-zero, add-assoc}
 use native.Mathlib.Numerals.{add-one}
 use native.Mathlib.Omega.{arith}
-use lib.ListN.{length, take, drop, set, replicate, length-append, length-take, length-drop, take-append-drop, replicate-append-replicate, length-replicate}
-use lib.Seq.{length-take-le, take-at, drop-at, drop-drop, set-split}
+use lib.ListN.{length, take, drop, set, getD, length-append, length-take, length-drop, take-append-drop}
+use lib.Seq.{length-take-le, take-suc, take-at, drop-at, drop-drop, set-split}
 
 pub record Put (old : List ℕ) (at : ℕ) (w : List ℕ) (new : List ℕ) (r : ℕ) : Type 0 where
   pub is : new ≡ take at old ++ (w ++ drop (at + length w) old)
@@ -55,15 +55,16 @@ module _ (old : List ℕ) (at : ℕ) (w mid : List ℕ) (a : ℕ) (p : Put old a
       sum : at + length w + length v ≡ at + length (w ++ v)
       sum = add-assoc at (length w) (length v) ∙ ap (λ n. at + n) (sym (length-append w v))
 
-pub replicate-one : (n x : ℕ) → replicate n x ++ (x ∷ []) ≡ replicate (n + 1) x
-replicate-one n x = replicate-append-replicate n 1 x
-
-pub put-again : (old : List ℕ) (at x j : ℕ) (buf : List ℕ) → Put old at (replicate j x) buf (at + j) → at + j < length old → Put old at (replicate (j + 1) x) (set buf (at + j) x) (at + (j + 1))
-put-again old at x j buf p h =
-    subst (Put old at (replicate (j + 1) x) (set buf (at + j) x)) (add-assoc at j 1)
-    (subst (λ (w : List ℕ). Put old at w (set buf (at + j) x) (at + j + 1)) (replicate-one j x)
-    (put-more old at (replicate j x) buf (at + j) p room (x ∷ []) (set buf (at + j) x) (at + j + 1)
-    (put-one buf (at + j) x (omega (arith, put-length old at (replicate j x) buf (at + j) p room)))))
+-- one byte more of those to be put
+pub put-next : (old : List ℕ) (at : ℕ) (w : List ℕ) (j : ℕ) (buf : List ℕ) → Put old at (take j w) buf (at + j) → j < length w → at + length w ≤ length old → Put old at (take (j + 1) w) (set buf (at + j) (getD w j 0)) (at + (j + 1))
+put-next old at w j buf p l h =
+    subst (Put old at (take (j + 1) w) (set buf (at + j) x)) (add-assoc at j 1)
+    (subst (λ (v : List ℕ). Put old at v (set buf (at + j) x) (at + j + 1)) (sym (ap (λ n. take n w) (add-one j) ∙ take-suc w j 0 l))
+    (put-more old at (take j w) buf (at + j) p room (x ∷ []) (set buf (at + j) x) (at + j + 1)
+    (put-one buf (at + j) x (omega (arith, put-length old at (take j w) buf (at + j) p room)))))
   where
-    room : at + length (replicate j x) ≤ length old
-    room = omega (arith, length-replicate j x)
+    x : ℕ
+    x = getD w j 0
+
+    room : at + length (take j w) ≤ length old
+    room = omega (arith, length-take-le j w (omega arith))

@@ -20,7 +20,7 @@ use Rattle.normal_form.specs.declared.steps.Tail.{Tail}
 use Rattle.normal_form.specs.Job6.{Ranged, axisNumber, axis-at}
 use Rattle.normal_form.specs.Tables.{quadruple, all, at}
 use Rattle.normal_form.specs.Cliffords.{mulC, tconjC, splitC, split-right}
-use Rattle.normal_form.specs.Pairs.{kind₂, next₂, kind-few, eqClifford, eqClifford-is}
+use Rattle.normal_form.specs.Pairs.{kind₂, next₂, eqClifford, eqClifford-is}
 use Rattle.normal_form.specs.Syllables.{syllableOf, made}
 
 -- ---- a letter's number
@@ -82,42 +82,57 @@ pub record Fits (t : Tail) : Type 0 where
 pub fits-ranged : (t : Tail) → Fits t → Ranged (tailOf t)
 fits-ranged t h = record { a-few = omega (arith, h .code-few); b-few = omega arith; c-few = omega arith; d-few = h .phase-few }
 
--- the Clifford that an entry gives
-abbrev pub moved : Tail → ℕ → Tail
-moved t e = record { code = e % 32; phase = (t .phase + e / 32 % 8) % 8 }
+-- the Clifford that an entry gives, and a phase more
+abbrev pub moved : Tail → ℕ → ℕ → Tail
+moved t e k = record { code = e % 32; phase = (t .phase + e / 32 + k) % 8 }
 
-abbrev gives : ℕ → ℕ → Clifford → Bool
-gives e p q = ltb (e % 32) 24 && eqClifford (cliffordAt (e % 32) ((p + e / 32 % 8) % 8)) q
+abbrev gives : ℕ → ℕ → ℕ → Clifford → Bool
+gives e k p q = ltb (e % 32) 24 && eqClifford (cliffordAt (e % 32) ((p + e / 32 + k) % 8)) q
 
-given : (e : ℕ) (t : Tail) (q : Clifford) → T (gives e (t .phase) q) → Fits (moved t e) × (tailOf (moved t e) ≡ q)
-given e t q h =
-    let s = and-yes (ltb (e % 32) 24) (eqClifford (tailOf (moved t e)) q) h in
-    (record { code-few = ltb→lt (e % 32) 24 (s .0); phase-few = omega arith }, eqClifford-is (tailOf (moved t e)) q (s .1))
+given : (e k : ℕ) (t : Tail) (q : Clifford) → T (gives e k (t .phase) q) → Fits (moved t e k) × (tailOf (moved t e k) ≡ q)
+given e k t q h =
+    let s = and-yes (ltb (e % 32) 24) (eqClifford (tailOf (moved t e k)) q) h in
+    (record { code-few = ltb→lt (e % 32) 24 (s .0); phase-few = omega arith }, eqClifford-is (tailOf (moved t e k)) q (s .1))
 
 -- ---- the parts of the table
-abbrev pairTest : ℕ → Letter → Letter → ℕ → ℕ → Bool
-pairTest e l m g p = eqb (e / 256) (kind₂ l m (cliffordAt g p)) && gives e p (next₂ l m (cliffordAt g p))
+abbrev pub rowOf : List ℕ → ℕ → ℕ → ℕ
+rowOf rows first second = getD rows (600 + (first * 6 + second)) 0
+
+abbrev pub changeOf : List ℕ → ℕ → ℕ → ℕ
+changeOf rows first second = getD rows (636 + (first * 6 + second)) 0
+
+abbrev pub entryOf : List ℕ → ℕ → ℕ → ℕ
+entryOf rows row g = getD rows (row % 32 * 24 + g) 0
+
+abbrev pub kindAt : List ℕ → ℕ → ℕ → ℕ
+kindAt rows change g = getD rows (408 + change * 24 + g) 0
+
+abbrev pairTest : ℕ → ℕ → ℕ → Letter → Letter → ℕ → ℕ → Bool
+pairTest kind e row l m g p = eqb kind (kind₂ l m (cliffordAt g p)) && gives e (row / 32) p (next₂ l m (cliffordAt g p))
+
+abbrev rowTest : List ℕ → ℕ → ℕ → Letter → Letter → Bool
+rowTest rows row change l m = (ltb (row % 32) 17 && ltb change 3) && (ltb row 256 && all 24 (λ g. all 8 (pairTest (kindAt rows change g) (entryOf rows row g) row l m g)))
 
 abbrev pairsTest : List ℕ → Bool
-pairsTest rows = all 6 (λ l. all 6 (λ m. all 24 (λ g. all 8 (pairTest (getD rows ((l * 6 + m) * 24 + g) 0) (letterAt l) (letterAt m) g))))
+pairsTest rows = all 6 (λ l. all 6 (λ m. rowTest rows (rowOf rows l m) (changeOf rows l m) (letterAt l) (letterAt m)))
 
 abbrev syllablesTest : List ℕ → Bool
-syllablesTest rows = all 4 (λ s. all 24 (λ g. all 8 (λ p. gives (getD rows (864 + s * 24 + g) 0) p (mulC (made (syllableOf s)) (cliffordAt g p)))))
+syllablesTest rows = all 4 (λ s. all 24 (λ g. all 8 (λ p. gives (getD rows (480 + s * 24 + g) 0) 0 p (mulC (made (syllableOf s)) (cliffordAt g p)))))
 
 abbrev axesTest : List ℕ → Bool
-axesTest rows = all 24 (λ g. all 8 (λ p. gives (getD rows (960 + g) 0) p (splitC (cliffordAt g p) .rest)))
+axesTest rows = all 24 (λ g. all 8 (λ p. gives (getD rows (576 + g) 0) 0 p (splitC (cliffordAt g p) .rest)))
 
 abbrev lettersTest : List ℕ → Bool
-lettersTest rows = all 17 (λ k. eqb (getD rows (984 + k) 0) (letterNumber (letterOf (k + 72))))
+lettersTest rows = all 17 (λ k. eqb (getD rows (672 + k) 0) (letterNumber (letterOf (k + 72))))
 
 pub record Right (rows : List ℕ) : Type 0 where
-  pub long : length rows ≡ 1001
+  pub long : length rows ≡ 689
   pub pairs : T (pairsTest rows)
   pub syllables : T (syllablesTest rows)
   pub axes : T (axesTest rows)
   pub letters : T (lettersTest rows)
 
-pub right : (rows : List ℕ) → length rows ≡ 1001 → T ((pairsTest rows && syllablesTest rows) && (axesTest rows && lettersTest rows)) → Right rows
+pub right : (rows : List ℕ) → length rows ≡ 689 → T ((pairsTest rows && syllablesTest rows) && (axesTest rows && lettersTest rows)) → Right rows
 right rows l t =
     let s = and-yes (pairsTest rows && syllablesTest rows) (axesTest rows && lettersTest rows) t in
     let u = and-yes (pairsTest rows) (syllablesTest rows) (s .0) in
@@ -130,12 +145,42 @@ pub record Stepped (l m : Letter) (t : Tail) (r : Step) : Type 0 where
   pub tail-is : tailOf (r .tail) ≡ next₂ l m (tailOf t)
   pub fits : Fits (r .tail)
 
-module _ (rows : List ℕ) (right : Right rows) (t : Tail) (h : Fits t) where
-  pub stepped : (first second : ℕ) → first < 6 → second < 6 → (r : Step) → r .kind ≡ getD rows ((first * 6 + second) * 24 + t .code) 0 / 256 → r .tail ≡ moved t (getD rows ((first * 6 + second) * 24 + t .code) 0) → Stepped (letterAt first) (letterAt second) t r
-  stepped first second hf hs r k e = record { kind-is = k ∙ eqb→eq (row / 256) (kind₂ l m (tailOf t)) (s .0); tail-is = ap tailOf e ∙ g .1; fits = subst Fits (sym e) (g .0) }
+-- where two letters' row and kinds stand, and what they say
+module _ (rows : List ℕ) (right : Right rows) (first second : ℕ) (hf : first < 6) (hs : second < 6) where
+  abbrev row : ℕ
+  row = rowOf rows first second
+
+  abbrev change : ℕ
+  change = changeOf rows first second
+
+  abbrev entries : Bool
+  entries = all 24 (λ g. all 8 (pairTest (kindAt rows change g) (entryOf rows row g) row (letterAt first) (letterAt second) g))
+
+  tested : (T (ltb (row % 32) 17) × T (ltb change 3)) × (T (ltb row 256) × T entries)
+  tested =
+      let s =
+      and-yes (ltb (row % 32) 17 && ltb change 3) (ltb row 256 && entries)
+      (at 6 (λ m. rowTest rows (rowOf rows first m) (changeOf rows first m) (letterAt first) (letterAt m))
+      (at 6 (λ l. all 6 (λ m. rowTest rows (rowOf rows l m) (changeOf rows l m) (letterAt l) (letterAt m))) (right .pairs) first hf) second hs) in
+      (and-yes (ltb (row % 32) 17) (ltb change 3) (s .0), and-yes (ltb row 256) entries (s .1))
+
+  pub row-few : rowOf rows first second % 32 < 17
+  row-few = ltb→lt (row % 32) 17 (tested .0 .0)
+
+  pub change-few : changeOf rows first second < 3
+  change-few = ltb→lt change 3 (tested .0 .1)
+
+  pub more-few : rowOf rows first second / 32 < 8
+  more-few = omega (arith, ltb→lt row 256 (tested .1 .0))
+
+  pub stepped : (t : Tail) → Fits t → (r : Step) → r .kind ≡ kindAt rows (changeOf rows first second) (t .code) → r .tail ≡ moved t (entryOf rows (rowOf rows first second) (t .code)) (rowOf rows first second / 32) → Stepped (letterAt first) (letterAt second) t r
+  stepped t h r k e = record { kind-is = k ∙ eqb→eq kind (kind₂ l m (tailOf t)) (s .0); tail-is = ap tailOf e ∙ g .1; fits = subst Fits (sym e) (g .0) }
     where
-      row : ℕ
-      row = getD rows ((first * 6 + second) * 24 + t .code) 0
+      kind : ℕ
+      kind = kindAt rows change (t .code)
+
+      entry : ℕ
+      entry = entryOf rows row (t .code)
 
       l : Letter
       l = letterAt first
@@ -143,49 +188,40 @@ module _ (rows : List ℕ) (right : Right rows) (t : Tail) (h : Fits t) where
       m : Letter
       m = letterAt second
 
-      here : ℕ → ℕ → ℕ → ℕ → Bool
-      here l m g p = pairTest (getD rows ((l * 6 + m) * 24 + g) 0) (letterAt l) (letterAt m) g p
-
-      s : T (eqb (row / 256) (kind₂ l m (tailOf t))) × T (gives row (t .phase) (next₂ l m (tailOf t)))
+      s : T (eqb kind (kind₂ l m (tailOf t))) × T (gives entry (row / 32) (t .phase) (next₂ l m (tailOf t)))
       s =
-          and-yes (eqb (row / 256) (kind₂ l m (tailOf t))) (gives row (t .phase) (next₂ l m (tailOf t)))
-          (at 8 (here first second (t .code))
-          (at 24 (λ g. all 8 (here first second g))
-          (at 6 (λ m. all 24 (λ g. all 8 (here first m g)))
-          (at 6 (λ l. all 6 (λ m. all 24 (λ g. all 8 (here l m g)))) (right .pairs) first hf) second hs) (t .code) (h .code-few)) (t .phase) (h .phase-few))
+          and-yes (eqb kind (kind₂ l m (tailOf t))) (gives entry (row / 32) (t .phase) (next₂ l m (tailOf t)))
+          (at 8 (pairTest kind entry row l m (t .code))
+          (at 24 (λ g. all 8 (pairTest (kindAt rows change g) (entryOf rows row g) row l m g)) (tested .1 .1) (t .code) (h .code-few)) (t .phase) (h .phase-few))
 
-      g : Fits (moved t row) × (tailOf (moved t row) ≡ next₂ l m (tailOf t))
-      g = given row t (next₂ l m (tailOf t)) (s .1)
+      g : Fits (moved t entry (row / 32)) × (tailOf (moved t entry (row / 32)) ≡ next₂ l m (tailOf t))
+      g = given entry (row / 32) t (next₂ l m (tailOf t)) (s .1)
 
-  pub row-kind : (first second : ℕ) → first < 6 → second < 6 → getD rows ((first * 6 + second) * 24 + t .code) 0 / 256 ≤ 3
-  row-kind first second hf hs =
-      let e = getD rows ((first * 6 + second) * 24 + t .code) 0 in
-      omega (arith, stepped first second hf hs (record { kind = e / 256; tail = moved t e }) refl refl .kind-is, kind-few (letterAt first) (letterAt second) (tailOf t))
-
+module _ (rows : List ℕ) (right : Right rows) (t : Tail) (h : Fits t) where
   -- ---- a syllable that a T meets
-  pub syllable-row : (s : ℕ) → s < 4 → Fits (moved t (getD rows (864 + s * 24 + t .code) 0)) × (tailOf (moved t (getD rows (864 + s * 24 + t .code) 0)) ≡ mulC (made (syllableOf s)) (tailOf t))
+  pub syllable-row : (s : ℕ) → s < 4 → Fits (moved t (getD rows (480 + s * 24 + t .code) 0) 0) × (tailOf (moved t (getD rows (480 + s * 24 + t .code) 0) 0) ≡ mulC (made (syllableOf s)) (tailOf t))
   syllable-row s k =
-      given (getD rows (864 + s * 24 + t .code) 0) t (mulC (made (syllableOf s)) (tailOf t))
+      given (getD rows (480 + s * 24 + t .code) 0) 0 t (mulC (made (syllableOf s)) (tailOf t))
       (at 8 (here s (t .code)) (at 24 (λ g. all 8 (here s g)) (at 4 (λ s. all 24 (λ g. all 8 (here s g))) (right .syllables) s k) (t .code) (h .code-few)) (t .phase) (h .phase-few))
     where
       here : ℕ → ℕ → ℕ → Bool
-      here s g p = gives (getD rows (864 + s * 24 + g) 0) p (mulC (made (syllableOf s)) (cliffordAt g p))
+      here s g p = gives (getD rows (480 + s * 24 + g) 0) 0 p (mulC (made (syllableOf s)) (cliffordAt g p))
 
   -- ---- a Clifford less its axis
-  pub axis-row : tailOf (moved t (getD rows (960 + t .code) 0)) ≡ splitC (tailOf t) .rest
+  pub axis-row : tailOf (moved t (getD rows (576 + t .code) 0) 0) ≡ splitC (tailOf t) .rest
   axis-row =
-      given (getD rows (960 + t .code) 0) t (splitC (tailOf t) .rest)
+      given (getD rows (576 + t .code) 0) 0 t (splitC (tailOf t) .rest)
       (at 8 (here (t .code)) (at 24 (λ g. all 8 (here g)) (right .axes) (t .code) (h .code-few)) (t .phase) (h .phase-few))
       .1
     where
       here : ℕ → ℕ → Bool
-      here g p = gives (getD rows (960 + g) 0) p (splitC (cliffordAt g p) .rest)
+      here g p = gives (getD rows (576 + g) 0) 0 p (splitC (cliffordAt g p) .rest)
 
 pub record Gained (s : ℕ) (t r : Tail) : Type 0 where
   pub tail-is : tailOf r ≡ mulC (made (syllableOf s)) (tailOf t)
   pub fits : Fits r
 
-pub gained : (rows : List ℕ) → Right rows → (t : Tail) → Fits t → (s : ℕ) → s < 4 → (r : Tail) → r ≡ moved t (getD rows (864 + s * 24 + t .code) 0) → Gained s t r
+pub gained : (rows : List ℕ) → Right rows → (t : Tail) → Fits t → (s : ℕ) → s < 4 → (r : Tail) → r ≡ moved t (getD rows (480 + s * 24 + t .code) 0) 0 → Gained s t r
 gained rows right t h s k r e = let g = syllable-row rows right t h s k in rw e (record { tail-is = g .1; fits = g .0 })
 
 abbrev pub axisAt : ℕ → Axis
@@ -198,7 +234,7 @@ axis-last zero f g = absurd (f refl)
 axis-last (suc zero) f g = absurd (g refl)
 axis-last (suc (suc n)) f g = refl
 
-pub split-at : (rows : List ℕ) → Right rows → (t : Tail) → Fits t → (axis : Axis) (rest : Tail) → axis ≡ axisAt (t .code / 8) → rest ≡ moved t (getD rows (960 + t .code) 0) → _≡_ {A = Coset} (record { axis = axis; rest = tailOf rest }) (splitC (tailOf t))
+pub split-at : (rows : List ℕ) → Right rows → (t : Tail) → Fits t → (axis : Axis) (rest : Tail) → axis ≡ axisAt (t .code / 8) → rest ≡ moved t (getD rows (576 + t .code) 0) 0 → _≡_ {A = Coset} (record { axis = axis; rest = tailOf rest }) (splitC (tailOf t))
 split-at rows right t h axis rest e f = λ i. record { axis = axes i; rest = rests i }
   where
     number : (n : ℕ) → n < 3 → axisNumber (axisAt n) ≡ n
@@ -214,9 +250,9 @@ split-at rows right t h axis rest e f = λ i. record { axis = axes i; rest = res
     rests = ap tailOf f ∙ axis-row rows right t h
 
 -- ---- the number of a byte
-pub number-in : (rows : List ℕ) → Right rows → (b : ℕ) → 72 ≤ b → b ≤ 88 → getD rows (984 + (b - 72)) 0 ≡ letterNumber (letterOf b)
+pub number-in : (rows : List ℕ) → Right rows → (b : ℕ) → 72 ≤ b → b ≤ 88 → getD rows (672 + (b - 72)) 0 ≡ letterNumber (letterOf b)
 number-in rows right b l h =
-    eqb→eq (getD rows (984 + (b - 72)) 0) (letterNumber (letterOf (b - 72 + 72))) (at 17 (λ k. eqb (getD rows (984 + k) 0) (letterNumber (letterOf (k + 72)))) (right .letters) (b - 72) (omega arith))
+    eqb→eq (getD rows (672 + (b - 72)) 0) (letterNumber (letterOf (b - 72 + 72))) (at 17 (λ k. eqb (getD rows (672 + k) 0) (letterNumber (letterOf (k + 72)))) (right .letters) (b - 72) (omega arith))
     ∙ ap (λ n. letterNumber (letterOf n)) (back b l)
   where
     back : (b : ℕ) → 72 ≤ b → b - 72 + 72 ≡ b

@@ -24,34 +24,6 @@ pub struct Coset {
     pub rest: Clifford,
 }
 
-pub const CLIFFORD_I: Clifford = Clifford {
-    a: 0,
-    b: 0,
-    c: 0,
-    d: 0,
-};
-
-pub const CLIFFORD_X: Clifford = Clifford {
-    a: 0,
-    b: 1,
-    c: 0,
-    d: 0,
-};
-
-pub const CLIFFORD_S: Clifford = Clifford {
-    a: 0,
-    b: 0,
-    c: 1,
-    d: 0,
-};
-
-pub const CLIFFORD_W: Clifford = Clifford {
-    a: 0,
-    b: 0,
-    c: 0,
-    d: 1,
-};
-
 pub const CLIFFORD_H: Clifford = Clifford {
     a: 1,
     b: 0,
@@ -63,20 +35,6 @@ pub const CLIFFORD_SH: Clifford = Clifford {
     a: 2,
     b: 0,
     c: 0,
-    d: 3,
-};
-
-pub const CLIFFORD_HS: Clifford = Clifford {
-    a: 1,
-    b: 0,
-    c: 2,
-    d: 5,
-};
-
-pub const CLIFFORD_SHS: Clifford = Clifford {
-    a: 2,
-    b: 0,
-    c: 1,
     d: 3,
 };
 

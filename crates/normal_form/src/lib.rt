@@ -39,7 +39,7 @@ fn refused(number: u8, place: usize) -> Written
 
 // The answer to a word, by way of an empty array with a place for each letter.
 fn read_and_write(
-    table: &[u16],
+    table: &[u8],
     items: &mut [u8],
     word: &[u8],
     phase: bool,

@@ -82,7 +82,7 @@ fn pop(items: &mut [u8], r: Reading, code: u8, tail: Tail) -> Reading
 }
 
 // A T with nothing between it and the last syllable, and a Clifford behind it.
-fn cancel(table: &[u16], items: &mut [u8], r: Reading, rest: Tail) -> Reading
+fn cancel(table: &[u8], items: &mut [u8], r: Reading, rest: Tail) -> Reading
     requires { ⌜ Right (now table) ⌝ ∗ ⌜ Readable (now items) r ⌝ ∗ ⌜ (r .count < length (now items)) × (r .count < 4096) ⌝ ∗ ⌜ Fits rest ⌝ }
     ensures { λ n. ⌜ Steps (cancelled (tailOf rest)) (now (items .entry)) r (now (items .exit)) n ⌝ }
 {
@@ -96,7 +96,7 @@ fn cancel(table: &[u16], items: &mut [u8], r: Reading, rest: Tail) -> Reading
 }
 
 // Two letters more, by their numbers.
-fn append_gates(table: &[u16], items: &mut [u8], r: Reading, first: u8, second: u8) -> Reading
+fn append_gates(table: &[u8], items: &mut [u8], r: Reading, first: u8, second: u8) -> Reading
     requires { ⌜ Right (now table) ⌝ ∗ ⌜ Readable (now items) r ⌝ ∗ ⌜ (r .count < length (now items)) × (r .count < 4096) ⌝ ∗ ⌜ (first < 6) × (second < 6) ⌝ }
     ensures { λ n. ⌜ Steps (pair (letterAt first) (letterAt second)) (now (items .entry)) r (now (items .exit)) n ⌝ }
 {
@@ -111,7 +111,7 @@ fn append_gates(table: &[u16], items: &mut [u8], r: Reading, first: u8, second: 
 }
 
 // The reading of a word, in an array that is empty, with a place for each letter.
-pub fn read_word(table: &[u16], items: &mut [u8], word: &[u8]) -> Read
+pub fn read_word(table: &[u8], items: &mut [u8], word: &[u8]) -> Read
     requires { ⌜ Right (now table) ⌝ ∗ ⌜ Blank (now items) ⌝ ∗ ⌜ (length (now word) ≤ 4096) × (length (now word) ≤ length (now items)) ⌝ }
     ensures { λ r. ⌜ Reads (now (word .entry)) (now (items .exit)) r ⌝ }
 {

@@ -10,7 +10,7 @@ ghost use Rattle.normal_form.specs.Steps.{Right, Fits, tailOf};
 ghost use Rattle.normal_form.specs.Held.{Readable};
 ghost use Rattle.normal_form.specs.Syllables.{syllableWord};
 ghost use Rattle.normal_form.specs.Put.{Put};
-ghost use Rattle.normal_form.specs.Endings.{essesOf, aitchesOf, endWord, endSize, endingOf, Ended};
+ghost use Rattle.normal_form.specs.Endings.{essesOf, aitchesOf, endWord, endSize, Sized, letterIn, endingOf, Ended};
 ghost use Rattle.normal_form.specs.Answers.{codesWord, Writes};
 use crate::Written;
 use crate::clifford::Axis;
@@ -68,7 +68,7 @@ fn kept(phase: bool, w: usize) -> usize
     if phase { w } else { 0 }
 }
 
-fn ending_of(table: &[u16], t: Tail, phase: bool) -> Ending
+fn ending_of(table: &[u8], t: Tail, phase: bool) -> Ending
     requires { ⌜ Right (now table) ⌝ ∗ ⌜ Fits t ⌝ }
     ensures { λ r. ⌜ Ended phase (tailOf t) r ⌝ }
 {
@@ -94,10 +94,38 @@ fn ending_of(table: &[u16], t: Tail, phase: bool) -> Ending
 
 impl Ending {
     fn size(self) -> usize
-        requires { ⌜ endSize self ≤ 64 ⌝ }
+        requires { ⌜ Sized (endSize self) ⌝ }
         ensures { λ r. ⌜ r ≡ endSize self ⌝ }
     {
         self.first + self.h + self.i + self.x + self.s + self.w
+    }
+
+    // The letter at a place of the tail.
+    fn letter(self, j: usize) -> u8
+        requires { ⌜ Sized (endSize self) ⌝ }
+        ensures { λ r. ⌜ r ≡ letterIn self j ⌝ }
+    {
+        let first = self.first;
+        let h = first + self.h;
+        let i = h + self.i;
+        let x = i + self.x;
+        let s = x + self.s;
+        if j < first {
+            return b'S';
+        }
+        if j < h {
+            return b'H';
+        }
+        if j < i {
+            return b'I';
+        }
+        if j < x {
+            return b'X';
+        }
+        if j < s {
+            return b'S';
+        }
+        b'W'
     }
 }
 
@@ -119,14 +147,6 @@ pub fn put_times(buf: &mut [u8], at: usize, letter: u8, n: usize) -> usize
         j += 1;
     }
     at + n
-}
-
-fn put_two(buf: &mut [u8], at: usize, first: u8, m: usize, second: u8, n: usize) -> usize
-    requires { ⌜ at + (m + n) ≤ length (now buf) ⌝ }
-    ensures { λ r. ⌜ Put (now (buf .entry)) at (replicate m first ++ replicate n second) (now (buf .exit)) r ⌝ }
-{
-    let middle = put_times(buf, at, first, m);
-    put_times(buf, middle, second, n)
 }
 
 fn put_syllable(buf: &mut [u8], at: usize, s: Syllable) -> usize
@@ -166,19 +186,17 @@ pub fn put_ending(buf: &mut [u8], at: usize, e: Ending) -> usize
     requires { ⌜ at + endSize e ≤ length (now buf) ⌝ }
     ensures { λ r. ⌜ Put (now (buf .entry)) at (bytes (endWord e)) (now (buf .exit)) r ⌝ }
 {
-    let first = e.first;
-    let h = e.h;
-    let i = e.i;
-    let x = e.x;
-    let s = e.s;
-    let w = e.w;
-    let a = put_two(buf, at, b'S', first, b'H', h);
-    let b = put_two(buf, a, b'I', i, b'X', x);
-    put_two(buf, b, b'S', s, b'W', w)
+    let n = e.size();
+    let mut j: usize = 0;
+    while j < n {
+        buf[at + j] = e.letter(j);
+        j += 1;
+    }
+    at + n
 }
 
 // The word of a reading, if there is room for it.
-pub fn write(table: &[u16], items: &[u8], r: Reading, phase: bool, buf: &mut [u8]) -> Written
+pub fn write(table: &[u8], items: &[u8], r: Reading, phase: bool, buf: &mut [u8]) -> Written
     requires { ⌜ Right (now table) ⌝ ∗ ⌜ Readable (now items) r ⌝ ∗ ⌜ r .count ≤ 4096 ⌝ }
     ensures { λ n. ⌜ Writes phase (now (items .entry)) r (now (buf .entry)) n (now (buf .exit)) ⌝ }
 {

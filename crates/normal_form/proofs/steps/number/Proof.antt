@@ -2,8 +2,7 @@
 use native.Mathlib.Omega.{arith}
 use borrow.Author.Needs.{needs}
 use denote.Ref.{now}
-use Rattle.exact.specs.Cases.Letters.{letterOf}
-use Rattle.normal_form.specs.Steps.{number-few, number-in, number-out}
+use Rattle.normal_form.specs.Steps.{number-in, number-out}
 use Rattle.normal_form.proofs.steps.number.Statement.{statement}
 use Rattle.normal_form.proofs.steps.number.Tie as tie
 
@@ -19,16 +18,8 @@ cast-result c = search needs
 add-result : tie.Need-add-result
 add-result c = search needs
 
-mul-result : tie.Need-mul-result
-mul-result c = search needs
-
 shared-slice-read-result : tie.Need-shared-slice-read-result
 shared-slice-read-result c = search needs
-
-cast-result-2 : tie.Need-cast-result-2
-cast-result-2 c =
-    let a = c .before .before .before .args in
-    omega (arith, number-in (now (a .table)) (c .before .before .before .pre) (a .b) (omega arith) (omega arith), number-few (letterOf (a .b)))
 
 returns-3 : tie.Need-returns-3
 returns-3 c = number-in (now (c .before .before .before .args .table)) (c .before .before .before .pre) (c .before .before .before .args .b) (omega arith) (omega arith)
@@ -36,12 +27,4 @@ returns-3 c = number-in (now (c .before .before .before .args .table)) (c .befor
 pub number-spec : {M : Type 1} → statement M
 number-spec =
     tie.close
-    (tie.spec
-    returns
-    returns-2
-    cast-result
-    add-result
-    mul-result
-    shared-slice-read-result
-    cast-result-2
-    returns-3)
+    (tie.spec returns returns-2 cast-result add-result shared-slice-read-result returns-3)

@@ -1,41 +1,101 @@
 -- `normal_form::writing::put_ending` meets its contract. Assumes nothing.
+use mathlib.Core.Path.{_≡_, sym, _∙_, ap, subst}
+use mathlib.Core.List.{List}
+use Prim.Native.Nat.{ℕ, _+_, _-_, _≤_}
+use native.Mathlib.Nat.{add-zero}
 use native.Mathlib.Omega.{arith}
-use borrow.Author.Needs.{needs}
 use denote.Ref.{now}
-use Rattle.normal_form.specs.Answers.{ran-two, put-ends}
+use lib.ListN.{length, take, set, length-take}
+use lib.Seq.{take-all}
+use Rattle.exact.specs.Meaning.Word.{bytes}
+use Rattle.normal_form.specs.Answers.{bytes-length}
+use Rattle.normal_form.specs.Endings.{endWord, endSize, end-length, letter-in}
+use Rattle.normal_form.specs.Put.{Put, put-none, put-length, put-next}
+use Rattle.normal_form.specs.declared.writing.Ending.{Ending}
 use Rattle.normal_form.proofs.writing.put_ending.Statement.{statement}
 use Rattle.normal_form.proofs.writing.put_ending.Tie as tie
 
-put-two-requires : tie.Need-put-two-requires
-put-two-requires c κs = search needs
+abbrev Inv-loop : tie.InvT-loop
+Inv-loop buf₀ at e n j₀ buf j = (n ≡ endSize e) × (j ≤ n) × (at + endSize e ≤ length buf₀) × Put buf₀ at (take j (bytes (endWord e))) buf (at + j)
 
-put-two-requires-2 : tie.Need-put-two-requires-2
-put-two-requires-2 c κs =
-    let the-pre = c .before .before .before .before .before .before .pre in
-    let the-args = c .before .before .before .before .before .before .args in
-    let the-put-two = c .before .before .before .put-two in
-    omega (arith, the-pre, ran-two (now (the-args .buf)) (the-args .at) 83 (the-args .e .first) 72 (the-args .e .h) (the-put-two .last .0) (the-put-two .result) (the-put-two .ensures) (the-put-two .kept .0))
+abbrev μ-loop : tie.MeasureT-loop
+μ-loop buf₀ at e n j₀ buf j = n - j
 
-put-two-requires-3 : tie.Need-put-two-requires-3
-put-two-requires-3 c κs =
-    let the-pre = c .before .before .before .before .before .before .before .before .before .before .pre in
-    let the-args = c .before .before .before .before .before .before .before .before .before .before .args in
-    let the-put-two = c .before .before .before .before .before .before .before .put-two in
-    let the-put-two2 = c .before .before .before .put-two2 in
-    omega (arith, the-pre, ran-two (now (the-args .buf)) (the-args .at) 83 (the-args .e .first) 72 (the-args .e .h) (the-put-two .last .0) (the-put-two .result) (the-put-two .ensures) (the-put-two .kept .0), ran-two (the-put-two .last .0) (the-put-two .result) 73 (the-args .e .i) 88 (the-args .e .x) (the-put-two2 .last .0) (the-put-two2 .result) (the-put-two2 .ensures) (the-put-two2 .kept .0))
+whole : (e : Ending) → length (bytes (endWord e)) ≡ endSize e
+whole e = bytes-length (endWord e) ∙ end-length e
 
-same-length : tie.Need-same-length
-same-length c = search needs
+long : (buf₀ : List ℕ) (at : ℕ) (e : Ending) (j : ℕ) (buf : List ℕ) → at + endSize e ≤ length buf₀ → Put buf₀ at (take j (bytes (endWord e))) buf (at + j) → length buf ≡ length buf₀
+long buf₀ at e j buf h p = put-length buf₀ at (take j (bytes (endWord e))) buf (at + j) p (omega (arith, length-take j (bytes (endWord e)), whole e))
 
-returns : tie.Need-returns
+size-requires : tie.Need-size-requires Inv-loop μ-loop
+size-requires c κs = omega (arith, c .before .pre)
+
+loop-holds : tie.Need-loop-holds Inv-loop μ-loop
+loop-holds c =
+    let a = c .before .before .args in
+    (c .size .ensures, omega arith, c .before .before .pre, rw (add-zero (a .at)) (put-none (now (a .buf)) (a .at)))
+
+letter-requires : tie.Need-letter-requires Inv-loop μ-loop
+letter-requires c κs = omega (arith, c .before .before .before .before .pre)
+
+add-buf : tie.Need-add-buf Inv-loop μ-loop
+add-buf c = omega (arith, c .before .before .loop .inv .0, c .before .before .loop .inv .2)
+
+slice-write-buf : tie.Need-slice-write-buf Inv-loop μ-loop
+slice-write-buf c =
+    let l = c .before .before .loop in
+    let a = c .before .before .before .before .before .args in
+    omega (arith, l .inv .0, l .inv .2, long (now (a .buf)) (a .at) (a .e) (l .j) (l .buf) (l .inv .2) (l .inv .3), c .before .loop-test .taken)
+
+add-j : tie.Need-add-j Inv-loop μ-loop
+add-j c = omega arith
+
+loop-less : tie.Need-loop-less Inv-loop μ-loop
+loop-less c = omega arith
+
+loop-again : tie.Need-loop-again Inv-loop μ-loop
+loop-again c =
+    let l = c .before .before .loop in
+    let a = c .before .before .before .before .before .args in
+    let w = bytes (endWord (a .e)) in
+    let t = c .before .loop-test .taken in
+    (l .inv .0, omega (arith, t), l .inv .2, subst (λ (x : ℕ). Put (now (a .buf)) (a .at) (take (l .j + 1) w) (set (l .buf) (a .at + l .j) x) (a .at + (l .j + 1))) (sym (c .letter .ensures ∙ letter-in (a .e) (l .j) (omega (arith, l .inv .0, t)))) (put-next (now (a .buf)) (a .at) w (l .j) (l .buf) (l .inv .3) (omega (arith, whole (a .e), l .inv .0, t)) (omega (arith, whole (a .e), l .inv .2))))
+
+add-result : tie.Need-add-result Inv-loop μ-loop
+add-result c = omega (arith, c .before .loop .inv .0, c .before .loop .inv .2)
+
+same-length : tie.Need-same-length Inv-loop μ-loop
+same-length c =
+    let l = c .before .loop in
+    let a = c .before .before .before .before .args in
+    long (now (a .buf)) (a .at) (a .e) (l .j) (l .buf) (l .inv .2) (l .inv .3)
+
+returns : tie.Need-returns Inv-loop μ-loop
 returns c =
-    let the-args = c .before .before .before .before .before .before .before .before .before .before .before .before .before .args in
-    let the-put-two = c .before .before .before .before .before .before .before .before .before .before .put-two in
-    let the-put-two2 = c .before .before .before .before .before .before .put-two2 in
-    let the-put-two3 = c .before .before .put-two3 in
-    let the-pre = c .before .before .before .before .before .before .before .before .before .before .before .before .before .pre in
-    put-ends (now (the-args .buf)) (the-args .at) (the-args .e) (the-put-two .last .0) (the-put-two .result) (the-put-two2 .last .0) (the-put-two2 .result) (the-put-two3 .last .0) (the-put-two3 .result) (the-pre) (the-put-two .ensures) (the-put-two2 .ensures) (the-put-two3 .ensures)
+    let l = c .before .loop in
+    let a = c .before .before .before .before .args in
+    let w = bytes (endWord (a .e)) in
+    let n = c .before .before .size .result in
+    subst (λ (v : List ℕ). Put (now (a .buf)) (a .at) v (l .buf) (a .at + n)) (take-all n w (omega (arith, whole (a .e), l .inv .0)))
+    (subst (λ (k : ℕ). Put (now (a .buf)) (a .at) (take k w) (l .buf) (a .at + k)) (the-end (l .j) n (l .inv .1) (c .loop-test .left)) (l .inv .3))
+  where
+    the-end : (j n : ℕ) → j ≤ n → n ≤ j → j ≡ n
+    the-end j n h k = omega arith
 
 pub put-ending-spec : {M : Type 1} → statement M
 put-ending-spec =
-    tie.close (tie.spec put-two-requires put-two-requires-2 put-two-requires-3 same-length returns)
+    tie.close
+    (tie.spec
+    Inv-loop
+    μ-loop
+    size-requires
+    loop-holds
+    letter-requires
+    add-buf
+    slice-write-buf
+    add-j
+    loop-less
+    loop-again
+    add-result
+    same-length
+    returns)

@@ -5,23 +5,20 @@ use Rattle.normal_form.specs.Steps.{gained}
 use Rattle.normal_form.proofs.steps.Tail.behind.Statement.{statement}
 use Rattle.normal_form.proofs.steps.Tail.behind.Tie as tie
 
-mul-row : tie.Need-mul-row
-mul-row c = search needs
+mul-entry : tie.Need-mul-entry
+mul-entry c = search needs
 
-add-row : tie.Need-add-row
-add-row c = search needs
+add-entry : tie.Need-add-entry
+add-entry c = search needs
 
-cast-row : tie.Need-cast-row
-cast-row c = search needs
+cast-entry : tie.Need-cast-entry
+cast-entry c = search needs
 
-add-row-2 : tie.Need-add-row-2
-add-row-2 c = search needs
+add-entry-2 : tie.Need-add-entry-2
+add-entry-2 c = search needs
 
-mul-row-2 : tie.Need-mul-row-2
-mul-row-2 c = search needs
-
-shared-slice-read-row : tie.Need-shared-slice-read-row
-shared-slice-read-row c = search needs
+shared-slice-read-entry : tie.Need-shared-slice-read-entry
+shared-slice-read-entry c = search needs
 
 moved-requires : tie.Need-moved-requires
 moved-requires c κs = search needs
@@ -36,11 +33,10 @@ pub behind-spec : {M : Type 1} → statement M
 behind-spec =
     tie.close
     (tie.spec
-    mul-row
-    add-row
-    cast-row
-    add-row-2
-    mul-row-2
-    shared-slice-read-row
+    mul-entry
+    add-entry
+    cast-entry
+    add-entry-2
+    shared-slice-read-entry
     moved-requires
     returns)

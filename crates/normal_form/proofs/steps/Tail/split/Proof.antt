@@ -5,17 +5,14 @@ use Rattle.normal_form.specs.Steps.{split-at}
 use Rattle.normal_form.proofs.steps.Tail.split.Statement.{statement}
 use Rattle.normal_form.proofs.steps.Tail.split.Tie as tie
 
-cast-row : tie.Need-cast-row
-cast-row c = search needs
+cast-entry : tie.Need-cast-entry
+cast-entry c = search needs
 
-add-row : tie.Need-add-row
-add-row c = search needs
+add-entry : tie.Need-add-entry
+add-entry c = search needs
 
-mul-row : tie.Need-mul-row
-mul-row c = search needs
-
-shared-slice-read-row : tie.Need-shared-slice-read-row
-shared-slice-read-row c = search needs
+shared-slice-read-entry : tie.Need-shared-slice-read-entry
+shared-slice-read-entry c = search needs
 
 moved-requires : tie.Need-moved-requires
 moved-requires c κs = search needs
@@ -32,11 +29,4 @@ returns c =
 pub split-spec : {M : Type 1} → statement M
 split-spec =
     tie.close
-    (tie.spec
-    cast-row
-    add-row
-    mul-row
-    shared-slice-read-row
-    moved-requires
-    axis-at-requires
-    returns)
+    (tie.spec cast-entry add-entry shared-slice-read-entry moved-requires axis-at-requires returns)

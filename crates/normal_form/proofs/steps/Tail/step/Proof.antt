@@ -1,11 +1,15 @@
 -- `normal_form::steps::Tail::step` meets its contract. Assumes nothing.
 use mathlib.Core.Path.{refl}
+use Prim.Native.Nat.{_%_, _/_, _<_}
 use native.Mathlib.Omega.{arith}
 use borrow.Author.Needs.{needs}
 use denote.Ref.{now}
-use Rattle.normal_form.specs.Steps.{stepped, row-kind}
+use Rattle.normal_form.specs.Steps.{rowOf, changeOf, row-few, change-few, more-few, stepped}
 use Rattle.normal_form.proofs.steps.Tail.step.Statement.{statement}
 use Rattle.normal_form.proofs.steps.Tail.step.Tie as tie
+
+few-change : (s : tie.Start) → changeOf (now (s .args .table)) (s .args .first) (s .args .second) < 3
+few-change s = let a = s .args in change-few (now (a .table)) (s .pre .0) (a .first) (a .second) (s .pre .1 .1 .0) (s .pre .1 .1 .1)
 
 mul-pair : tie.Need-mul-pair
 mul-pair c = search needs
@@ -13,35 +17,62 @@ mul-pair c = search needs
 add-pair : tie.Need-add-pair
 add-pair c = search needs
 
-mul-row : tie.Need-mul-row
-mul-row c = search needs
-
-cast-row : tie.Need-cast-row
-cast-row c = search needs
-
 add-row : tie.Need-add-row
 add-row c = search needs
-
-mul-row-2 : tie.Need-mul-row-2
-mul-row-2 c = search needs
 
 shared-slice-read-row : tie.Need-shared-slice-read-row
 shared-slice-read-row c = search needs
 
+add-change : tie.Need-add-change
+add-change c = search needs
+
+shared-slice-read-change : tie.Need-shared-slice-read-change
+shared-slice-read-change c = search needs
+
 cast-kind : tie.Need-cast-kind
-cast-kind c =
-    let a = c .before .before .before .args in
-    let the-pre = c .before .before .before .pre in
-    omega (arith, row-kind (now (a .table)) (the-pre .0) (a .self) (the-pre .1 .0) (a .first) (a .second) (the-pre .1 .1 .0) (the-pre .1 .1 .1))
+cast-kind c = omega (arith, few-change (c .before .before .before))
+
+mul-kind : tie.Need-mul-kind
+mul-kind c = omega (arith, few-change (c .before .before .before))
+
+add-kind : tie.Need-add-kind
+add-kind c = omega (arith, few-change (c .before .before .before))
+
+cast-kind-2 : tie.Need-cast-kind-2
+cast-kind-2 c = search needs
+
+add-kind-2 : tie.Need-add-kind-2
+add-kind-2 c = omega (arith, few-change (c .before .before .before .before), c .before .before .before .before .pre .1 .0 .code-few)
+
+shared-slice-read-kind : tie.Need-shared-slice-read-kind
+shared-slice-read-kind c = omega (arith, few-change (c .before .before .before .before .before), c .before .before .before .before .before .pre .1 .0 .code-few, c .before .before .before .before .before .pre .0 .long)
+
+cast-entry : tie.Need-cast-entry
+cast-entry c = search needs
+
+mul-entry : tie.Need-mul-entry
+mul-entry c = search needs
+
+cast-entry-2 : tie.Need-cast-entry-2
+cast-entry-2 c = search needs
+
+add-entry : tie.Need-add-entry
+add-entry c = search needs
+
+shared-slice-read-entry : tie.Need-shared-slice-read-entry
+shared-slice-read-entry c = let s = c .before .before .before .before .before .before .before in let a = s .args in omega (arith, row-few (now (a .table)) (s .pre .0) (a .first) (a .second) (s .pre .1 .1 .0) (s .pre .1 .1 .1), s .pre .1 .0 .code-few, s .pre .0 .long)
 
 moved-requires : tie.Need-moved-requires
-moved-requires c κs = search needs
+moved-requires c κs =
+    let s = c .before .before .before .before .before .before .before in
+    let a = s .args in
+    (s .pre .1 .0, more-few (now (a .table)) (s .pre .0) (a .first) (a .second) (s .pre .1 .1 .0) (s .pre .1 .1 .1))
 
 returns : tie.Need-returns
 returns c =
-    let a = c .before .before .before .before .args in
-    let the-pre = c .before .before .before .before .pre in
-    stepped (now (a .table)) (the-pre .0) (a .self) (the-pre .1 .0) (a .first) (a .second) (the-pre .1 .1 .0) (the-pre .1 .1 .1) _ refl (c .moved .ensures)
+    let s = c .before .before .before .before .before .before .before .before in
+    let a = s .args in
+    stepped (now (a .table)) (s .pre .0) (a .first) (a .second) (s .pre .1 .1 .0) (s .pre .1 .1 .1) (a .self) (s .pre .1 .0) _ refl (c .moved .ensures)
 
 pub step-spec : {M : Type 1} → statement M
 step-spec =
@@ -49,11 +80,20 @@ step-spec =
     (tie.spec
     mul-pair
     add-pair
-    mul-row
-    cast-row
     add-row
-    mul-row-2
     shared-slice-read-row
+    add-change
+    shared-slice-read-change
     cast-kind
+    mul-kind
+    add-kind
+    cast-kind-2
+    add-kind-2
+    shared-slice-read-kind
+    cast-entry
+    mul-entry
+    cast-entry-2
+    add-entry
+    shared-slice-read-entry
     moved-requires
     returns)
