@@ -1,3 +1,4 @@
 -- Demand 3: normalising a word's letters and synthesising from its multiplied-out matrix agree.
 pub mod Demand3
 pub mod Agree
+pub mod Unique

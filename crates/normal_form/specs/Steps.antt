@@ -132,8 +132,8 @@ pub record Right (rows : List ℕ) : Type 0 where
   pub axes : T (axesTest rows)
   pub letters : T (lettersTest rows)
 
-pub right : (rows : List ℕ) → length rows ≡ 689 → T ((pairsTest rows && syllablesTest rows) && (axesTest rows && lettersTest rows)) → Right rows
-right rows l t =
+pub right : {rows : List ℕ} → length rows ≡ 689 → T ((pairsTest rows && syllablesTest rows) && (axesTest rows && lettersTest rows)) → Right rows
+right {rows} l t =
     let s = and-yes (pairsTest rows && syllablesTest rows) (axesTest rows && lettersTest rows) t in
     let u = and-yes (pairsTest rows) (syllablesTest rows) (s .0) in
     let v = and-yes (axesTest rows) (lettersTest rows) (s .1) in

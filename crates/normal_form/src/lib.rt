@@ -54,6 +54,19 @@ fn read_and_write(
     }
 }
 
+// The answer to a word that is not too long, by an array as long as it needs.
+fn answer_by(table: &[u8], word: &[u8], phase: bool, buf: &mut [u8]) -> Written
+    requires { ⌜ Right (now table) ⌝ ∗ ⌜ length (now word) ≤ 4096 ⌝ }
+    ensures { λ r. ⌜ Outcome (Answers phase) (now (word .entry)) (now (buf .entry)) r (now (buf .exit)) ⌝ }
+{
+    if word.len() > SHORT {
+        let mut items = [EMPTY; 4096];
+        return read_and_write(table, &mut items, word, phase, buf);
+    }
+    let mut items = [EMPTY; 64];
+    read_and_write(table, &mut items, word, phase, buf)
+}
+
 // Jobs 3 and 5: with the final W letters, or without.
 fn answer(word: &[u8], phase: bool, buf: &mut [u8]) -> Written
     ensures { λ r. ⌜ Outcome (Answers phase) (now (word .entry)) (now (buf .entry)) r (now (buf .exit)) ⌝ }
@@ -62,12 +75,7 @@ fn answer(word: &[u8], phase: bool, buf: &mut [u8]) -> Written
         return refused(exact::LONG, 0);
     }
     let table = TABLE;
-    if word.len() > SHORT {
-        let mut items = [EMPTY; 4096];
-        return read_and_write(&table, &mut items, word, phase, buf);
-    }
-    let mut items = [EMPTY; 64];
-    read_and_write(&table, &mut items, word, phase, buf)
+    answer_by(&table, word, phase, buf)
 }
 
 // Job 3: the normal word with the word's matrix.

@@ -1,4 +1,5 @@
 -- `normal_form::writing::ending_of` meets its contract. Assumes nothing.
+use Prim.Native.Nat.{_+_, _≤_}
 use native.Mathlib.Omega.{arith}
 use borrow.Author.Needs.{needs}
 use Rattle.normal_form.specs.Endings.{split-few, ended}
@@ -24,33 +25,23 @@ wide-requires-2 c κs = search needs
 wide-requires-3 : tie.Need-wide-requires-3
 wide-requires-3 c κs = search needs
 
-add-one-if-none : tie.Need-add-one-if-none
-add-one-if-none c =
-    let the-args = c .before .before .before .before .before .before .before .before .args in
+sum-few : (c : tie.After-wide3) → c .before .before .before .before .esses .result + c .before .before .before .aitches .result + c .before .before .wide .result + c .before .wide2 .result + c .wide3 .result ≤ 13
+sum-few c =
+    let the-start = c .before .before .before .before .before .before .before .before in
     let the-split = c .before .before .before .before .before .before .split in
-    let the-pre = c .before .before .before .before .before .before .before .before .pre in
-    omega (arith, split-few (tailOf (the-args .t)) (the-split .result) (fits-ranged (the-args .t) (the-pre .1)) (the-split .ensures), c .before .before .before .before .esses .ensures, c .before .before .before .aitches .ensures, c .before .before .wide .ensures, c .before .wide2 .ensures, c .wide3 .ensures)
+    omega (arith, split-few (tailOf (the-start .args .t)) (the-split .result) (fits-ranged (the-start .args .t) (the-start .pre .1)) (the-split .ensures), c .before .before .before .before .esses .ensures, c .before .before .before .aitches .ensures, c .before .before .wide .ensures, c .before .wide2 .ensures, c .wide3 .ensures)
+
+add-one-if-none : tie.Need-add-one-if-none
+add-one-if-none c = omega (arith, sum-few c)
 
 add-one-if-none-2 : tie.Need-add-one-if-none-2
-add-one-if-none-2 c =
-    let the-args = c .before .before .before .before .before .before .before .before .args in
-    let the-split = c .before .before .before .before .before .before .split in
-    let the-pre = c .before .before .before .before .before .before .before .before .pre in
-    omega (arith, split-few (tailOf (the-args .t)) (the-split .result) (fits-ranged (the-args .t) (the-pre .1)) (the-split .ensures), c .before .before .before .before .esses .ensures, c .before .before .before .aitches .ensures, c .before .before .wide .ensures, c .before .wide2 .ensures, c .wide3 .ensures)
+add-one-if-none-2 c = omega (arith, sum-few c)
 
 add-one-if-none-3 : tie.Need-add-one-if-none-3
-add-one-if-none-3 c =
-    let the-args = c .before .before .before .before .before .before .before .before .args in
-    let the-split = c .before .before .before .before .before .before .split in
-    let the-pre = c .before .before .before .before .before .before .before .before .pre in
-    omega (arith, split-few (tailOf (the-args .t)) (the-split .result) (fits-ranged (the-args .t) (the-pre .1)) (the-split .ensures), c .before .before .before .before .esses .ensures, c .before .before .before .aitches .ensures, c .before .before .wide .ensures, c .before .wide2 .ensures, c .wide3 .ensures)
+add-one-if-none-3 c = omega (arith, sum-few c)
 
 add-one-if-none-4 : tie.Need-add-one-if-none-4
-add-one-if-none-4 c =
-    let the-args = c .before .before .before .before .before .before .before .before .args in
-    let the-split = c .before .before .before .before .before .before .split in
-    let the-pre = c .before .before .before .before .before .before .before .before .pre in
-    omega (arith, split-few (tailOf (the-args .t)) (the-split .result) (fits-ranged (the-args .t) (the-pre .1)) (the-split .ensures), c .before .before .before .before .esses .ensures, c .before .before .before .aitches .ensures, c .before .before .wide .ensures, c .before .wide2 .ensures, c .wide3 .ensures)
+add-one-if-none-4 c = omega (arith, sum-few c)
 
 one-if-none-requires : tie.Need-one-if-none-requires
 one-if-none-requires c κs = search needs

@@ -1,0 +1,43 @@
+-- `normal_form::answer_by` meets its contract. Assumes nothing.
+use native.Mathlib.Omega.{arith}
+use borrow.Author.Needs.{needs}
+use Rattle.normal_form.specs.Held.{blank}
+use Rattle.normal_form.proofs.answer_by.Statement.{statement}
+use Rattle.normal_form.proofs.answer_by.Tie as tie
+
+slice-aggregate-read-and-write : tie.Need-slice-aggregate-read-and-write
+slice-aggregate-read-and-write c = search needs
+
+read-and-write-requires : tie.Need-read-and-write-requires
+read-and-write-requires c κs = let the-pre = c .before .before .before .before .before .before .pre in (the-pre .0, (blank 4096, (the-pre .1, the-pre .1)))
+
+same-length : tie.Need-same-length
+same-length c = search needs
+
+returns : tie.Need-returns
+returns c = search needs
+
+slice-aggregate-read-and-write-2 : tie.Need-slice-aggregate-read-and-write-2
+slice-aggregate-read-and-write-2 c = search needs
+
+read-and-write-requires-2 : tie.Need-read-and-write-requires-2
+read-and-write-requires-2 c κs = let the-pre = c .before .before .before .before .before .before .pre in (the-pre .0, (blank 64, (the-pre .1, omega (arith, c .before .before .if1 .left))))
+
+same-length-2 : tie.Need-same-length-2
+same-length-2 c = search needs
+
+returns-2 : tie.Need-returns-2
+returns-2 c = search needs
+
+pub answer-by-spec : {M : Type 1} → statement M
+answer-by-spec =
+    tie.close
+    (tie.spec
+    slice-aggregate-read-and-write
+    read-and-write-requires
+    same-length
+    returns
+    slice-aggregate-read-and-write-2
+    read-and-write-requires-2
+    same-length-2
+    returns-2)
