@@ -171,7 +171,8 @@ fn main() {
     println!("|---|---|---|---|---|");
     let lent = Lent::new(12_320);
     // Few short words, taken again and again, teach the processor their branches: both are timed.
-    for (len, n, turns, which) in [(20, 4000, 2, ""), (20, 400, 20, ", 400 words only"), (200, 400, 3, ""), (4096, 20, 3, "")] {
+    let sizes = [(20, 4000, 2, ""), (20, 400, 20, ", 400 words only"), (200, 400, 3, ""), (4096, 20, 3, "")];
+    for (len, n, turns, which) in sizes {
         let inputs = words(&mut random, JOB_3, len, n);
         let name = format!("normalise, {len} random letters{which}");
         race(

@@ -15,7 +15,6 @@ use Rattle.synthesis_of_clifford_t.specs.Outcome as Job4
 use Rattle.synthesis_of_clifford_t.specs.Outcome.{synthesise-unique}
 use Rattle.agreement.specs.declared.Agreement.{Agreement}
 use Rattle.agreement.specs.Agree.{Second, Alike, AgreeOutcome}
-use Rattle.agreement.specs.Demand3.{Synthesises}
 
 -- ---- the second way
 second-unique : (m : FromGates) (old : List ℕ) (r : Written) (new : List ℕ) (r′ : Written) (new′ : List ℕ) → Second m old r new → Second m old r′ new′ → Job3.Equal r new r′ new′

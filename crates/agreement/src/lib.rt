@@ -1,5 +1,4 @@
 // Demand 3 in running code: a word normalised, and its matrix synthesised.
-ghost use mathlib.Core.Path.{_≡_};
 ghost use Prim.Native.Nat.{_≤_};
 ghost use lib.ListN.{length};
 ghost use Rattle.unitary.specs.Checks.{Decides};

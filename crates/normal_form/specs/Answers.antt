@@ -2,13 +2,13 @@
 use mathlib.Core.Path.{_≡_, refl, sym, _∙_, ap, ap₂, subst}
 use mathlib.Core.Bool.{Bool, true, false}
 use mathlib.Core.List.{List, [], _∷_, _++_, append-assoc, append-nil}
-use Prim.Native.Nat.{ℕ, zero, suc, _+_, _-_, _<_, _≤_}
+use Prim.Native.Nat.{ℕ, suc, _+_, _-_, _<_, _≤_}
 use native.Mathlib.Nat.{zero-add}
 use native.Mathlib.Numerals.{add-one}
 use native.Mathlib.Omega.{arith}
-use lib.ListN.{length, take, drop, getD, replicate, length-append, length-replicate}
+use lib.ListN.{length, take, drop, getD, length-append}
 use lib.Seq.{take-suc, take-add, take-length}
-use Rattle.exact.specs.Meaning.Word.{Letter, I, H, S, X, W, byte, bytes, tees, job3, FirstOutside}
+use Rattle.exact.specs.Meaning.Word.{Letter, W, byte, bytes, tees, job3, FirstOutside}
 use Rattle.exact.specs.Meaning.Normal as normal
 use Rattle.exact.specs.Meaning.Limits.{Accepted, Room}
 use Rattle.exact.specs.Cases.Letters.{lettersOf}
@@ -16,7 +16,6 @@ use Rattle.exact.specs.Unique.Tails.{tees-append}
 use Rattle.normal_form.specs.declared.reading.Read.{Read}
 use Rattle.normal_form.specs.declared.reading.Read.the-variants as Read
 use Rattle.normal_form.specs.declared.Written.{Written}
-use Rattle.normal_form.specs.declared.clifford.Clifford.{Clifford}
 use Rattle.normal_form.specs.declared.reading.Reading.{Reading}
 use Rattle.normal_form.specs.declared.reading.Syllable.{Syllable}
 use Rattle.normal_form.specs.declared.writing.Ending.{Ending}

@@ -1,5 +1,5 @@
 -- Products, inverses, splits and the passing of a T, as the tables give them, are right for matrices. Assumes nothing.
-use mathlib.Core.Path.{_≡_, refl, sym, _∙_, ap, ap₂}
+use mathlib.Core.Path.{_≡_, refl, sym, _∙_, ap}
 use mathlib.Core.List.{List, [], _∷_, _++_, append-assoc, append-nil}
 use Prim.Native.Nat.{ℕ, zero, suc, _+_, _-_, _*_, _%_, _<_, _≤_}
 use native.Mathlib.Omega.{arith}
@@ -13,8 +13,8 @@ use Rattle.normal_form.specs.declared.clifford.Clifford.{Clifford}
 use Rattle.normal_form.specs.declared.clifford.Conj2.{Conj2}
 use Rattle.normal_form.specs.declared.clifford.Coset.{Coset}
 use Rattle.normal_form.specs.declared.clifford.Tconj.{Tconj}
-use Rattle.normal_form.specs.Job6.{letters, axisWord, axisNumber, Ranged, Product, Inverse, Split}
-use Rattle.normal_form.specs.Words.{_≈_, by-refl, by-eq, by-sym, _⨾_, join, under, before, other-side, Powers, lessened, cycles, exes, esses, doubleyous, pass, pass-S}
+use Rattle.normal_form.specs.Job6.{letters, axisWord, Ranged, Product, Inverse, Split}
+use Rattle.normal_form.specs.Words.{_≈_, by-refl, by-eq, by-sym, _⨾_, join, under, before, other-side, lessened, cycles, exes, esses, doubleyous, pass, pass-S}
 use Rattle.normal_form.specs.Tables.{quadruple, conj2, conj3, cinv, tconj, Row2, Row3, RowInv, RowT, conj2-right, conj3-right, conj3-ranged, cinv-right, tconj-right}
 
 -- ---- the numbers brought into their ranges

@@ -1,5 +1,5 @@
 -- The letters of a tail, counted one letter after the other, with its final W letters or without. Assumes nothing.
-use mathlib.Core.Path.{_≡_, refl, sym, _∙_, ap, ap₂, subst}
+use mathlib.Core.Path.{_≡_, refl, sym, _∙_, ap, subst}
 use mathlib.Core.Bool.{Bool, true, false, cond}
 use mathlib.Core.List.{List, [], _∷_, _++_, append-assoc, append-nil}
 use Prim.Native.Nat.{ℕ, zero, suc, _+_, _-_, _≤_, _<_}
@@ -8,8 +8,8 @@ use native.Mathlib.Omega.{arith}
 use lib.Dec.{eqb, ltb}
 use lib.ListN.{length, length-append, getD}
 use borrow.Author.Tests.{eqb-true, eqb-false, ne-eqb, ltb-true, ltb-false}
-use Rattle.exact.specs.Meaning.Word.{Letter, I, H, S, X, W, T′, byte, bytes, tees}
-use Rattle.exact.specs.Meaning.Normal.{times, tailWord, orI, leading, kept, lessFinalW, HT, SHT, Syllable}
+use Rattle.exact.specs.Meaning.Word.{Letter, I, H, S, X, W, byte, bytes, tees}
+use Rattle.exact.specs.Meaning.Normal.{times, tailWord, orI, kept, lessFinalW, HT, SHT, Syllable}
 use Rattle.exact.specs.Unique.Tails.{tees-append}
 use Rattle.normal_form.specs.declared.clifford.Axis.{Axis}
 use Rattle.normal_form.specs.declared.clifford.Axis.the-variants as Axis

@@ -2,7 +2,7 @@
 -- Assumes nothing.
 use mathlib.Core.Path.{_≡_, refl, sym, _∙_, ap, ap₂, subst}
 use mathlib.Core.Logic.{_≢_}
-use mathlib.Core.Bool.{Bool, true, false, cond}
+use mathlib.Core.Bool.{Bool, true, false}
 use mathlib.Core.List.{List, [], _∷_, _++_}
 use Prim.Native.Nat.{ℕ, zero, suc, _+_, _-_, _*_, _/_, _≤_, _<_}
 use native.Mathlib.Nat.{add-zero}
@@ -10,9 +10,9 @@ use native.Mathlib.Numerals.{add-one}
 use native.Mathlib.Omega.{arith}
 use borrow.Author.Tests.{eqb-true, eqb-false}
 use lib.Dec.{eqb}
-use lib.ListN.{length, take, drop, set, getD, replicate, length-append, length-take, length-set, length-replicate}
+use lib.ListN.{length, take, set, getD, replicate, length-append, length-take}
 use lib.Seq.{length-take-le, take-suc, take-set-le, take-suc-set, take-take, take-append-seam, getD-take, getD-append-seam, getD-set-same, getD-set-other}
-use Rattle.exact.specs.Meaning.Word.{Letter, T′}
+use Rattle.exact.specs.Meaning.Word.{Letter}
 use Rattle.exact.specs.Meaning.Normal as normal
 use Rattle.exact.specs.Cases.Letters.{letterOf, lettersOf}
 use Rattle.normal_form.specs.declared.clifford.Axis.{Axis}
@@ -24,7 +24,7 @@ use Rattle.normal_form.specs.declared.reading.Syllable.the-variants as S
 use Rattle.normal_form.specs.declared.steps.Step.{Step}
 use Rattle.normal_form.specs.declared.steps.Tail.{Tail}
 use Rattle.normal_form.specs.Job6.{Ranged}
-use Rattle.normal_form.specs.Cliffords.{mulC, cliffordS, cliffordHS, cliffordSHS}
+use Rattle.normal_form.specs.Cliffords.{mulC}
 use Rattle.normal_form.specs.Readings.{State, state, syllable, prefix, prefix-length, start, tee, read, run, run-append, run-size, size, sizeOf}
 use Rattle.normal_form.specs.Pairs.{kind₂, next₂, kind-few, after, two}
 use Rattle.normal_form.specs.Syllables.{syllableNumber, syllableOf, made, named, named-word, syllable-size, syllable-few}

@@ -3,8 +3,7 @@
 use mathlib.Core.Path.{_≡_, refl, sym, _∙_, ap, ap₂}
 use mathlib.Core.Bool.{Bool, true, false, cond}
 use mathlib.Core.List.{List, [], _∷_, _++_, append-assoc, append-nil}
-use Prim.Native.Nat.{ℕ, zero, suc, _+_, _≤_}
-use native.Mathlib.Nat.{zero-add}
+use Prim.Native.Nat.{ℕ, _+_, _≤_}
 use native.Mathlib.Omega.{arith}
 use lib.ListN.{length, length-append}
 use Rattle.exact.specs.Meaning.Matrix.{Same}
@@ -13,8 +12,8 @@ use Rattle.exact.specs.Meaning.Normal.{Syllable, HT, SHT, Front, nothing, onlyH
 use Rattle.exact.specs.Meaning.Clifford.{cycle}
 use Rattle.exact.specs.Matrices.Same.{Same-of}
 use Rattle.exact.specs.Matrices.Test.{same-by}
-use Rattle.exact.specs.Unique.Normal.{core, coreOf, spell-word}
-use Rattle.exact.specs.Unique.Tails.{tail-tees, tees-append}
+use Rattle.exact.specs.Unique.Normal.{spell-word}
+use Rattle.exact.specs.Unique.Tails.{tees-append}
 use Rattle.normal_form.specs.declared.clifford.Axis.{Axis}
 use Rattle.normal_form.specs.declared.clifford.Axis.the-variants as Axis
 use Rattle.normal_form.specs.declared.clifford.Clifford.{Clifford}
@@ -228,10 +227,6 @@ size b ss = cond b 1 0 + length ss
 pub prefix-length : (b : Bool) (s : Syllable) (ss : List Syllable) → length (prefix b (s ∷ ss)) ≡ length (prefix b ss) + length (syllable s)
 prefix-length b s ss = length-append (prefix b ss) (syllable s)
 
--- and one for a tail
-pub text-length : (st : State) → length (spell (shapeOf st)) ≡ length (prefix (st .lead) (st .stack)) + length (orI (tailWord (tailAt (splitC (st .q)))))
-text-length st = ap length (spelled st) ∙ length-append (prefix (st .lead) (st .stack)) (orI (tailWord (tailAt (splitC (st .q)))))
-
 syllable-tees : (s : Syllable) → tees (syllable s) ≡ 1
 syllable-tees HT = refl
 syllable-tees SHT = refl
@@ -240,15 +235,6 @@ pub prefix-tees : (b : Bool) (ss : List Syllable) → tees (prefix b ss) ≡ siz
 prefix-tees true [] = refl
 prefix-tees false [] = refl
 prefix-tees b (s ∷ ss) = omega (arith, tees-append (prefix b ss) (syllable s), syllable-tees s, prefix-tees b ss)
-
-pub orI-tees : (u : List Letter) → tees (orI u) ≡ tees u
-orI-tees [] = refl
-orI-tees (l ∷ u) = refl
-
-pub text-tees : (st : State) → tees (spell (shapeOf st)) ≡ size (st .lead) (st .stack)
-text-tees st =
-    let t = tailAt (splitC (st .q)) in
-    ap tees (spelled st) ∙ omega (arith, tees-append (prefix (st .lead) (st .stack)) (orI (tailWord t)), prefix-tees (st .lead) (st .stack), orI-tees (tailWord t), tail-tees t)
 
 -- a reading has at most as many syllables as letters were read
 tee-size : (a : Axis) (r : Clifford) (b : Bool) (ss : List Syllable) → size (tee a r b ss .lead) (tee a r b ss .stack) ≤ size b ss + 1

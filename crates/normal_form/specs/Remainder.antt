@@ -1,15 +1,15 @@
 -- The remainder from 0 up, by way of -1 - x, which fits whatever fits. Assumes nothing.
 use mathlib.Core.Path.{_≡_, refl, sym, _∙_, ap, subst}
-use mathlib.Core.Bool.{Bool, true, false}
-use Prim.Native.Nat.{ℕ, zero, suc, _-_, _%_, _^_, _<_, _≤_}
+use mathlib.Core.Bool.{true, false}
+use Prim.Native.Nat.{ℕ, _-_, _%_, _<_, _≤_}
 use native.Mathlib.Nat.{mod-lt}
 use native.Mathlib.Omega.{arith}
-use lib.Dec.{T, ltb}
+use lib.Dec.{T}
 use borrow.Author.Tests.{ltb-true}
 use lib.IntN.{ℤ, pos, negsuc, natAbs, _-ℤ_}
-use lib.Signed.{ltZ, nonNeg, mag}
+use lib.Signed.{ltZ, nonNeg}
 use mir.Syntax.{w32}
-use mir.Val.{Fits, SFits, hbits}
+use mir.Val.{Fits, SFits}
 use mir.Facts.{toZ-ofZ}
 use Rattle.exact.specs.Whole.Linear.{int, difference}
 use Rattle.exact.specs.Whole.Machine.{held}

@@ -1,6 +1,6 @@
 -- The table of two letters, of syllables that a T meets, of Cliffords less their axes and of the letters' numbers: each part proved right by one computed
 -- test over its rows. Assumes nothing.
-use mathlib.Core.Path.{_≡_, refl, sym, _∙_, ap, ap₂, subst}
+use mathlib.Core.Path.{_≡_, refl, sym, _∙_, ap, subst}
 use mathlib.Core.Bool.{Bool, true, false, cond, _&&_}
 use mathlib.Core.List.{List}
 use Prim.Native.Nat.{ℕ, zero, suc, _+_, _-_, _*_, _/_, _%_, _<_, _≤_}
@@ -19,7 +19,7 @@ use Rattle.normal_form.specs.declared.steps.Step.{Step}
 use Rattle.normal_form.specs.declared.steps.Tail.{Tail}
 use Rattle.normal_form.specs.Job6.{Ranged, axisNumber, axis-at}
 use Rattle.normal_form.specs.Tables.{quadruple, all, at}
-use Rattle.normal_form.specs.Cliffords.{mulC, tconjC, splitC, split-right}
+use Rattle.normal_form.specs.Cliffords.{mulC, splitC, split-right}
 use Rattle.normal_form.specs.Pairs.{kind₂, next₂, eqClifford, eqClifford-is}
 use Rattle.normal_form.specs.Syllables.{syllableOf, made}
 
@@ -42,14 +42,6 @@ letterAt-is X = refl
 letterAt-is W = refl
 letterAt-is T′ = refl
 letterAt-is I = refl
-
-pub number-few : (l : Letter) → letterNumber l < 6
-number-few H = omega arith
-number-few S = omega arith
-number-few X = omega arith
-number-few W = omega arith
-number-few T′ = omega arith
-number-few I = omega arith
 
 -- only the five letters of job 3 have a number below 5
 pub number-known : (l : Letter) → letterNumber l ≤ 4 → job3 l ≡ true

@@ -45,12 +45,6 @@ pub named-word : (s : normal.Syllable) → syllableWord (named s) ≡ syllable s
 named-word normal.HT = refl
 named-word normal.SHT = refl
 
-pub syllable-back : (s : Syllable) → syllableOf (syllableNumber s) ≡ s
-syllable-back Syllable.I = refl
-syllable-back Syllable.T = refl
-syllable-back Syllable.HT = refl
-syllable-back Syllable.SHT = refl
-
 -- a syllable's number is that of its letters
 pub syllable-size : (s : Syllable) → length (syllableWord s) ≡ syllableNumber s
 syllable-size Syllable.I = refl

@@ -1,10 +1,10 @@
 -- The four tables, each proved right for matrices by one computed test over its rows. Assumes nothing.
 use mathlib.Core.Path.{_≡_, refl}
-use mathlib.Core.Bool.{Bool, true, false, _&&_}
+use mathlib.Core.Bool.{Bool, true, _&&_}
 use mathlib.Core.List.{List, [], _∷_, _++_}
-use Prim.Native.Nat.{ℕ, zero, suc, _+_, _*_, _<_, _≤_}
+use Prim.Native.Nat.{ℕ, zero, suc, _+_, _*_, _<_}
 use native.Mathlib.Omega.{arith}
-use lib.Dec.{T, ltb, ltb→lt, eqb, eqb→eq}
+use lib.Dec.{T, ltb, ltb→lt}
 use lib.ListN.{getD}
 use mir.Facts.{and-yes}
 use Rattle.exact.specs.Meaning.Word.{Letter, S, X, W, T′, word}

@@ -1,7 +1,7 @@
 -- What follows from the outcomes of jobs 3 and 5: they are unique, a normal word always exists and has the fewest T letters, document 01's table of
 -- cases, and that no useless program meets them. Assumes nothing.
-use mathlib.Core.Path.{_≡_, refl, sym, _∙_, ap, ap₂, subst}
-use mathlib.Core.Bool.{Bool, true, false, _&&_}
+use mathlib.Core.Path.{_≡_, refl, sym, _∙_, ap, subst}
+use mathlib.Core.Bool.{Bool, true, _&&_}
 use mathlib.Core.List.{List, [], _∷_, _++_}
 use Prim.Native.Nat.{ℕ, zero, suc, _<_, _≤_}
 use native.Mathlib.Omega.{arith}
@@ -9,7 +9,7 @@ use lib.Dec.{T, leb, leb→le}
 use lib.ListN.{length, getD, drop}
 use mir.Facts.{and-yes}
 use Rattle.exact.specs.Meaning.Matrix.{Same}
-use Rattle.exact.specs.Meaning.Word.{Letter, I, H, S, X, W, T′, word, tees, byte, bytes, job3, In, Spells}
+use Rattle.exact.specs.Meaning.Word.{Letter, I, S, W, T′, word, tees, byte, bytes, job3, In, Spells}
 use Rattle.exact.specs.Meaning.Normal.{Normal, times, lessFinalW}
 use Rattle.exact.specs.Meaning.Limits.{longest, Accepted}
 use Rattle.exact.specs.Matrices.Test.{sameTest, same-by}
@@ -21,7 +21,7 @@ use Rattle.normal_form.specs.declared.Written.{Written}
 use Rattle.normal_form.specs.Outcome.{Normalises, Shortens, handed, Answered, room, accepted, Outcome, long, letter, answered, normalises-single, shortens-single, Equal, outcome-unique}
 use Rattle.normal_form.specs.Readings.{start, run}
 use Rattle.normal_form.specs.Endings.{textOf}
-use Rattle.normal_form.specs.Answers.{answers, bytes-length}
+use Rattle.normal_form.specs.Answers.{answers}
 
 -- ---- two outcomes that job 3 or job 5 allows are equal
 pub normalise-unique : (w old : List ℕ) (r : Written) (new : List ℕ) (r′ : Written) (new′ : List ℕ) → Outcome Normalises w old r new → Outcome Normalises w old r′ new′ → Equal r new r′ new′

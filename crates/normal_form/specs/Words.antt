@@ -1,8 +1,8 @@
 -- Words with the same matrix: rewriting inside a word, powers of a letter, W past everything, and S past T. Assumes nothing.
-use mathlib.Core.Path.{_≡_, refl, sym, _∙_, ap, ap₂, subst}
+use mathlib.Core.Path.{_≡_, refl, sym, _∙_, ap}
 use mathlib.Core.List.{List, [], _∷_, _++_, append-assoc, append-nil}
 use Prim.Native.Nat.{ℕ, zero, suc, _+_, _*_, _/_, _%_}
-use native.Mathlib.Nat.{zero-add, suc-add, add-assoc, div-add-mod'}
+use native.Mathlib.Nat.{zero-add, suc-add, div-add-mod'}
 use native.Mathlib.Omega.{arith}
 use Rattle.exact.specs.Meaning.Matrix.{Same}
 use Rattle.exact.specs.Meaning.Word.{Letter, I, H, S, X, W, T′, word}

@@ -1,6 +1,6 @@
 // Readings: the syllables and the Clifford that the letters read so far make (NormalForm of the Rust).
 ghost use mathlib.Core.Path.{_≡_};
-ghost use Prim.Native.Nat.{_+_, _*_, _≤_, _<_};
+ghost use Prim.Native.Nat.{_+_, _≤_, _<_};
 ghost use lib.ListN.{length};
 ghost use Rattle.normal_form.specs.Readings.{read};
 ghost use Rattle.normal_form.specs.Steps.{letterAt, Right, Fits, tailOf};

@@ -1,7 +1,7 @@
 // Normal words into a lent buffer. The length and the T letters are known before a byte is written.
 ghost use mathlib.Core.Path.{_≡_};
 ghost use mathlib.Core.Bool.{cond};
-ghost use mathlib.Core.List.{[], _∷_, _++_};
+ghost use mathlib.Core.List.{[], _∷_};
 ghost use Prim.Native.Nat.{_+_, _≤_, _<_};
 ghost use lib.Dec.{eqb};
 ghost use lib.ListN.{length, replicate, take};
@@ -10,7 +10,7 @@ ghost use Rattle.normal_form.specs.Steps.{Right, Fits, tailOf};
 ghost use Rattle.normal_form.specs.Held.{Readable};
 ghost use Rattle.normal_form.specs.Syllables.{syllableWord};
 ghost use Rattle.normal_form.specs.Put.{Put};
-ghost use Rattle.normal_form.specs.Endings.{essesOf, aitchesOf, endWord, endSize, Sized, letterIn, endingOf, Ended};
+ghost use Rattle.normal_form.specs.Endings.{essesOf, aitchesOf, endWord, endSize, Sized, letterIn, Ended};
 ghost use Rattle.normal_form.specs.Answers.{codesWord, Writes};
 use crate::Written;
 use crate::clifford::Axis;

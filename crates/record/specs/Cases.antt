@@ -1,7 +1,6 @@
 -- The definitions run: document 01's example, and numbers at the ends of the range. Assumes nothing.
 use mathlib.Core.Path.{_≡_, refl}
-use mathlib.Core.List.{List, [], _∷_, _++_}
-use Prim.Native.Nat.{ℕ}
+use mathlib.Core.List.{[], _∷_}
 use lib.IntN.{pos, negsuc}
 use Rattle.record.specs.Meaning.{digitsOf, digits, text, recordText, answerText}
 

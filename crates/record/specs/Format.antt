@@ -2,9 +2,8 @@
 -- and that a text determines its value and what follows. Pieces are put together by `before`. Assumes nothing.
 use mathlib.Core.Path.{_≡_, refl, sym, _∙_, ap, ap₂}
 use mathlib.Core.List.{List, [], _∷_, _++_, append-assoc}
-use Prim.Native.Nat.{ℕ, suc, _≤_, _<_, _^_}
-use native.Mathlib.Omega.{arith}
-use lib.IntN.{ℤ, pos, negsuc}
+use Prim.Native.Nat.{ℕ, _≤_, _<_}
+use lib.IntN.{ℤ}
 use lib.ListN.{length, drop}
 use Rattle.record.specs.Meaning.{digits, text, InRange}
 use Rattle.record.specs.Decimal.{digits-once, text-once}

@@ -1,16 +1,16 @@
 -- Why the readers of lines answer right. Assumes nothing.
-use mathlib.Core.Path.{_≡_, refl, sym, _∙_, ap, ap₂, subst}
-use mathlib.Core.List.{List, [], _∷_, _++_}
-use Prim.Native.Nat.{ℕ, zero, suc, _+_, _-_, _≤_, _<_, _^_}
+use mathlib.Core.Path.{_≡_, sym, _∙_, ap, ap₂}
+use mathlib.Core.List.{List, _∷_}
+use Prim.Native.Nat.{ℕ, suc, _+_, _-_, _≤_, _<_}
 use native.Mathlib.Omega.{arith}
 use lib.IntN.{ℤ, pos, negsuc}
-use lib.ListN.{length, getD, drop, length-drop, drop-of-length-le}
+use lib.ListN.{length, getD, drop, drop-of-length-le}
 use mir.Syntax.{w64}
-use mir.Val.{SFits, ofZ, toZ}
+use mir.Val.{ofZ, toZ}
 use mir.ValLaws.{toZ-ofZ}
 use Rattle.record.specs.Meaning.{InRange}
 use Rattle.record.specs.Decimal.{cons-head, cons-tail}
-use Rattle.record.specs.Format.{Found, Missing, named, natural, whole, fourNumbers, ringLine, kLine, nLine, found-both, missing-first, missing-second, once-named, once-whole}
+use Rattle.record.specs.Format.{Found, Missing, named, natural, whole, fourNumbers, found-both, missing-second, once-named}
 use Rattle.record.specs.ReadLaws.{byte-and}
 use Rattle.record.specs.Read.{WholeIs, NaturalIs, FourIs, RingIs, KIs, NIs}
 use Rattle.record.specs.declared.decimal.Natural.{Natural}

@@ -1,12 +1,12 @@
 -- A right record has at most 201 bytes, so that whoever has read one byte more can stop: the answer is 8 whatever follows. Assumes nothing.
-use mathlib.Core.Path.{_≡_, refl, _∙_, ap}
+use mathlib.Core.Path.{_≡_, refl, ap}
 use mathlib.Core.List.{List, [], _∷_, _++_}
-use Prim.Native.Nat.{ℕ, suc, _+_, _^_, _≤_, _<_}
+use Prim.Native.Nat.{ℕ, suc, _+_, _≤_, _<_}
 use native.Mathlib.Omega.{arith}
 use lib.IntN.{ℤ, pos, negsuc}
 use lib.ListN.{length, take, length-append, length-take}
 use Rattle.exact.specs.Meaning.Number.{Ω}
-use Rattle.record.specs.Meaning.{Numbers, RightRecord, RingInRange, ReadOutcome, InRange, digits, text, line, four, recordText, refused, refusedRecord}
+use Rattle.record.specs.Meaning.{Numbers, RightRecord, RingInRange, ReadOutcome, InRange, digits, text, line, four, refused, refusedRecord}
 use Rattle.record.specs.Write.{digits-few}
 
 abbrev pub longestRecord : ℕ

@@ -1,13 +1,13 @@
 -- The whole record: its text is that of its lines, which determines the numbers; and why the reader answers right. Assumes nothing.
-use mathlib.Core.Path.{_≡_, refl, sym, _∙_, ap, ap₂, subst}
+use mathlib.Core.Path.{_≡_, sym, _∙_, ap, ap₂}
 use mathlib.Core.List.{List, [], _∷_, _++_, append-assoc, append-nil}
-use Prim.Native.Nat.{ℕ, zero, suc, _+_, _-_, _≤_, _<_}
+use Prim.Native.Nat.{ℕ, _+_, _-_, _≤_, _<_}
 use native.Mathlib.Omega.{arith}
 use lib.IntN.{ℤ}
 use lib.ListN.{length, drop, length-drop, drop-of-length-le}
 use Rattle.exact.specs.Meaning.Number.{Ω}
-use Rattle.record.specs.Meaning.{Numbers, RightRecord, RingInRange, ReadOutcome, accepted, refused, digits, text, line, four, recordText, numbers, refusedRecord}
-use Rattle.record.specs.Format.{Format, Found, Missing, Once, Four, before, found-both, missing-first, missing-second, kLine, nLine, ringLine, once-named, once-natural, once-whole, once-both, named, natural, whole, fourNumbers}
+use Rattle.record.specs.Meaning.{Numbers, RightRecord, ReadOutcome, accepted, refused, digits, text, line, four, recordText, numbers}
+use Rattle.record.specs.Format.{Format, Found, Missing, Once, Four, before, kLine, nLine, ringLine, once-named, once-natural, once-whole, once-both, named, natural, whole, fourNumbers}
 use Rattle.record.specs.declared.Record.{Record}
 
 -- ---- the lines together

@@ -5,8 +5,8 @@ use Prim.Native.Nat.{ℕ, zero, suc, _+_, _-_, _*_, _/_, _%_, _^_, _≤_, _<_}
 use native.Mathlib.Nat.{pow-suc}
 use native.Mathlib.Numerals.{add-one}
 use native.Mathlib.Omega.{arith}
-use lib.ListN.{length, set, take, drop, getD, length-append, length-set}
-use lib.Seq.{sets, length-sets, sets-eq, take-suc, take-all}
+use lib.ListN.{length, set, take, getD, length-append}
+use lib.Seq.{sets, length-sets, take-suc, take-all}
 use mathlib.Core.Logic.{_⊎_, inl, inr}
 use Rattle.record.specs.Meaning.{digits}
 use Rattle.record.specs.Decimal.{below-ten, digits-one, digits-more}

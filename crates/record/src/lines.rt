@@ -2,7 +2,6 @@
 use crate::decimal;
 use crate::decimal::Natural;
 use crate::decimal::Whole;
-ghost use Prim.Native.Nat.{_<_};
 ghost use lib.ListN.{drop};
 ghost use Rattle.record.specs.Read.{NameIs, FourIs, RingIs, KIs, NIs};
 

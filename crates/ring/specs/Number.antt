@@ -1,16 +1,16 @@
 -- A machine's ring number as the exact one, and its size. Assumes nothing.
-use mathlib.Core.Path.{_≡_, refl, sym, _∙_, ap}
+use mathlib.Core.Path.{_≡_, sym, _∙_, ap}
 use mathlib.Core.List.{List, [], _∷_}
-use Prim.Native.Nat.{ℕ, _-_, _≤_, _^_}
+use Prim.Native.Nat.{ℕ, _-_, _^_}
 use native.Mathlib.Omega.{arith}
-use lib.IntN.{ℤ, pos, negℤ, _-ℤ_}
+use lib.IntN.{ℤ, pos, _-ℤ_}
 use Rattle.exact.specs.Meaning.Number.{Quad, Ω, ints, quads, power, mulQ, omega′, omega^}
 use Rattle.exact.specs.Whole.Parity.{half}
 use Rattle.exact.specs.Algebra.Ring.{ints-laws}
-use Rattle.exact.specs.Algebra.Solver.{Expr, con, _⊝_, ⊖, exprs}
-use Rattle.exact.specs.Algebra.Omega.{quad-path, X₀, parts, solveQ}
+use Rattle.exact.specs.Algebra.Solver.{Expr, con, _⊝_, exprs}
+use Rattle.exact.specs.Algebra.Omega.{X₀, parts, solveQ}
 use Rattle.exact.specs.Meaning.Number.{Sized}
-use Rattle.exact.specs.Whole.Size.{Within, natAbs-sub}
+use Rattle.exact.specs.Whole.Size.{natAbs-sub}
 use Rattle.ring.specs.declared.ZOmega.{ZOmega}
 
 abbrev pub quad : ZOmega → Ω

@@ -13,7 +13,7 @@ use mir.Facts.{and-yes}
 use Rattle.exact.specs.Meaning.Number.{Ω, ints, omegas, mulQ, constQ, omega^}
 use Rattle.exact.specs.Meaning.Word.{Letter, S, X, W, T′, word, tee, tees}
 use Rattle.exact.specs.Meaning.Normal.{times}
-use Rattle.exact.specs.Meaning.Triple.{Triple, rows, squares, entries, Unitary}
+use Rattle.exact.specs.Meaning.Triple.{Triple, squares, entries, Unitary}
 use Rattle.exact.specs.Whole.Parity.{false-true}
 use Rattle.exact.specs.Algebra.Solver.{con, _⊗_, ring₁}
 use Rattle.exact.specs.Algebra.Omega.{omegas-laws, quad-path}

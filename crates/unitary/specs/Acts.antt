@@ -5,7 +5,7 @@ use native.Mathlib.Omega.{arith}
 use lib.Dec.{T}
 use lib.IntN.{pos, _+ℤ_}
 use borrow.Author.Tests.{ne-eqb}
-use Prim.Native.Nat.{ℕ, zero, suc, _≤_, _<_, _+_, _-_, _%_, _^_}
+use Prim.Native.Nat.{ℕ, zero, suc, _≤_, _<_, _+_, _-_, _^_}
 use Rattle.exact.specs.Meaning.Matrix.{Same, _·_, unit}
 use Rattle.exact.specs.Meaning.Word.{Letter, I, H, S, X, W, T′, letter}
 use Rattle.exact.specs.Cases.Letters.{letterOf}

@@ -1,13 +1,11 @@
 -- Programs that refuse all, or answer one matrix to everything, do not meet the promises of jobs 1 and 2: at named inputs their outcomes are not allowed.
 -- Assumes nothing.
-use mathlib.Core.Path.{_≡_, refl, ap}
-use mathlib.Core.List.{List, [], _∷_}
-use Prim.Native.Nat.{ℕ, zero, suc}
+use mathlib.Core.Path.{refl, ap}
+use mathlib.Core.List.{[]}
+use Prim.Native.Nat.{ℕ, suc}
 use native.Mathlib.Omega.{arith}
-use lib.Dec.{le→leb}
 use lib.IntN.{pos}
-use Rattle.exact.specs.Meaning.Word.{H, X, word}
-use Rattle.exact.specs.Matrices.Same.{Same-refl, Same-of}
+use Rattle.exact.specs.Matrices.Same.{Same-refl}
 use Rattle.exact.specs.Matrices.Least.{test-reduced}
 use Rattle.exact.specs.Matrices.Triples.{identity}
 use Rattle.ring.specs.declared.ZOmega.{ZOmega}

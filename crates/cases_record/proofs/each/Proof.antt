@@ -1,6 +1,5 @@
 -- `each` is safe and ends. The loop's invariant: `at` is at most the length. Assumes nothing.
 use Prim.Native.Nat.{_≤_, _-_}
-use native.Mathlib.Omega.{arith}
 use borrow.Author.Needs.{needs}
 use lib.ListN.{length}
 use Rattle.cases_record.proofs.each.Statement.{statement}

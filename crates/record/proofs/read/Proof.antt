@@ -1,9 +1,7 @@
 -- `read` meets its contract: where a line is missing no numbers have the input as their text, and where all are found these have. Assumes nothing.
 use mathlib.Core.Path.{refl, subst}
-use Prim.Native.Nat.{ℕ}
 use native.Mathlib.Omega.{arith}
 use denote.Ref.{now}
-use lib.IntN.{ℤ}
 use lib.ListN.{drop}
 use Rattle.record.specs.Meaning.{Numbers, accepted, refused}
 use Rattle.record.specs.Format.{Found, kLine, nLine, ringLine, found-both, missing-first, missing-second}

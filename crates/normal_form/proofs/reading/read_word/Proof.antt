@@ -10,7 +10,7 @@ use Rattle.exact.specs.Meaning.Word.{I}
 use Rattle.exact.specs.Cases.Letters.{letterOf, lettersOf}
 use Rattle.normal_form.specs.Held.{Holds, pair, start-holds, count-few, run-more, run-pair}
 use Rattle.normal_form.specs.Letters.{Inside, inside-none, inside-more, numbered-in, numbered-out}
-use Rattle.normal_form.specs.Readings.{State, start, read, run}
+use Rattle.normal_form.specs.Readings.{start, read, run}
 use Rattle.normal_form.specs.Steps.{letterNumber, letterAt, letterAt-is}
 use Rattle.normal_form.specs.declared.reading.Reading.{Reading}
 use Rattle.normal_form.proofs.reading.read_word.Statement.{statement}

@@ -1,6 +1,5 @@
 -- `lines::four_at` meets its contract: each number that is found leaves the rest to be found. Assumes nothing.
 use mathlib.Core.Path.{subst}
-use Prim.Native.Nat.{_<_}
 use native.Mathlib.Omega.{arith}
 use denote.Ref.{now}
 use lib.IntN.{ℤ}

@@ -1,8 +1,8 @@
 -- The proof of the cycle of calls {text::number}. The measure is the number. The tenth's digits and the last are the number's. Assumes nothing.
 use native.Mathlib.Omega.{arith}
 use denote.Ref.{now}
-use lib.ListN.{length, length-set}
-use Rattle.record.specs.Write.{Written, number-one, number-more, length-one, length-more, number-room, written-length}
+use lib.ListN.{length-set}
+use Rattle.record.specs.Write.{number-one, number-more, length-one, length-more, number-room, written-length}
 use Prim.Native.Nat.{ℕ, _<_}
 use borrow.Fn.Kinds.{In}
 use borrow.Fn.PlainCycle.{Measures, is, falls, and}

@@ -1,7 +1,7 @@
 -- `number::parts` meets its contract. Assumes nothing.
 use mathlib.Core.Path.{_≡_, sym, subst, ap₂}
 use Prim.Native.Nat.{ℕ, _≤_, _^_}
-use lib.IntN.{ℤ, _+ℤ_, _-ℤ_}
+use lib.IntN.{_+ℤ_, _-ℤ_}
 use mir.Syntax.{w64}
 use Rattle.exact.specs.Meaning.Number.{Sized}
 use Rattle.exact.specs.Whole.Machine.{held, arg, _∔_, _∸_}

@@ -1,10 +1,10 @@
 -- `normal_form::steps::Tail::step` meets its contract. Assumes nothing.
 use mathlib.Core.Path.{refl}
-use Prim.Native.Nat.{_%_, _/_, _<_}
+use Prim.Native.Nat.{_<_}
 use native.Mathlib.Omega.{arith}
 use borrow.Author.Needs.{needs}
 use denote.Ref.{now}
-use Rattle.normal_form.specs.Steps.{rowOf, changeOf, row-few, change-few, more-few, stepped}
+use Rattle.normal_form.specs.Steps.{changeOf, row-few, change-few, more-few, stepped}
 use Rattle.normal_form.proofs.steps.Tail.step.Statement.{statement}
 use Rattle.normal_form.proofs.steps.Tail.step.Tie as tie
 
