@@ -1,8 +1,7 @@
 // Cases of jobs 3, 5 and 6, on either side of each limit: a line each, compared with stdout.
+use clifford::Axis;
+use clifford::Clifford;
 use normal_form::Written;
-use normal_form::clifford;
-use normal_form::clifford::Axis;
-use normal_form::clifford::Clifford;
 use shown::number;
 use shown::text;
 

@@ -11,9 +11,9 @@ use mir.Val.{Fits, toZ}
 use mir.Facts.{toZ-pos, toZ-ofZ}
 use Rattle.exact.specs.Whole.Machine.{held}
 use Rattle.exact.specs.Whole.Size.{sfits-abs}
-use Rattle.normal_form.specs.Job6.{reduced, axisNumber, Product, Inverse, Split}
-use Rattle.normal_form.specs.declared.clifford.Clifford.{Clifford}
-use Rattle.normal_form.specs.declared.clifford.Coset.{Coset}
+use Rattle.clifford.specs.Job6.{reduced, axisNumber, Product, Inverse, Split}
+use Rattle.clifford.specs.declared.Clifford.{Clifford}
+use Rattle.clifford.specs.declared.Coset.{Coset}
 use Rattle.dunrossel.specs.declared.Four.{Four}
 
 -- a byte as a signed number

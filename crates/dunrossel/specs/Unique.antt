@@ -10,7 +10,7 @@ use Rattle.unitary.specs.declared.FromGates.{FromGates}
 use Rattle.unitary.specs.Unique.{reduce-unique, matrix-unique}
 use Rattle.normal_form.specs.declared.Written.{Written}
 use Rattle.normal_form.specs.Outcome.{Single, outcome-unique}
-use Rattle.normal_form.specs.Job6.{Product-unique, Inverse-unique, Split-unique}
+use Rattle.clifford.specs.Job6.{Product-unique, Inverse-unique, Split-unique}
 use Rattle.synthesis_of_clifford_t.specs.declared.Synthesis.{Synthesis}
 use Rattle.synthesis_of_clifford_t.specs.Outcome.{synthesise-unique}
 use Rattle.view.specs.declared.Answer.{Answer}

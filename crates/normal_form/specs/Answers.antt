@@ -19,7 +19,7 @@ use Rattle.normal_form.specs.declared.Written.{Written}
 use Rattle.normal_form.specs.declared.reading.Reading.{Reading}
 use Rattle.normal_form.specs.declared.reading.Syllable.{Syllable}
 use Rattle.normal_form.specs.declared.writing.Ending.{Ending}
-use Rattle.normal_form.specs.Cliffords.{splitC}
+use Rattle.clifford.specs.Cliffords.{splitC}
 use Rattle.normal_form.specs.Readings.{State, syllable, prefix, prefix-tees, start, run, shape, spelled, normal, normal-of}
 use Rattle.normal_form.specs.Held.{codes, Holds, count-is, count-few}
 use Rattle.normal_form.specs.Steps.{tailOf}

@@ -11,13 +11,13 @@ use borrow.Author.Tests.{eqb-true, eqb-false, ne-eqb, ltb-true, ltb-false}
 use Rattle.exact.specs.Meaning.Word.{Letter, I, H, S, X, W, byte, bytes, tees}
 use Rattle.exact.specs.Meaning.Normal.{times, tailWord, orI, kept, lessFinalW, HT, SHT, Syllable}
 use Rattle.exact.specs.Unique.Tails.{tees-append}
-use Rattle.normal_form.specs.declared.clifford.Axis.{Axis}
-use Rattle.normal_form.specs.declared.clifford.Axis.the-variants as Axis
-use Rattle.normal_form.specs.declared.clifford.Clifford.{Clifford}
-use Rattle.normal_form.specs.declared.clifford.Coset.{Coset}
+use Rattle.clifford.specs.declared.Axis.{Axis}
+use Rattle.clifford.specs.declared.Axis.the-variants as Axis
+use Rattle.clifford.specs.declared.Clifford.{Clifford}
+use Rattle.clifford.specs.declared.Coset.{Coset}
 use Rattle.normal_form.specs.declared.writing.Ending.{Ending}
-use Rattle.normal_form.specs.Job6.{Ranged}
-use Rattle.normal_form.specs.Cliffords.{splitC, split-right}
+use Rattle.clifford.specs.Job6.{Ranged}
+use Rattle.clifford.specs.Cliffords.{splitC, split-right}
 use Rattle.normal_form.specs.Readings.{State, prefix, tailAt}
 
 abbrev pub essesOf : Axis → ℕ

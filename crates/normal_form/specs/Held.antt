@@ -15,16 +15,16 @@ use lib.Seq.{length-take-le, take-suc, take-set-le, take-suc-set, take-take, tak
 use Rattle.exact.specs.Meaning.Word.{Letter}
 use Rattle.exact.specs.Meaning.Normal as normal
 use Rattle.exact.specs.Cases.Letters.{letterOf, lettersOf}
-use Rattle.normal_form.specs.declared.clifford.Axis.{Axis}
-use Rattle.normal_form.specs.declared.clifford.Axis.the-variants as Axis
-use Rattle.normal_form.specs.declared.clifford.Clifford.{Clifford}
+use Rattle.clifford.specs.declared.Axis.{Axis}
+use Rattle.clifford.specs.declared.Axis.the-variants as Axis
+use Rattle.clifford.specs.declared.Clifford.{Clifford}
 use Rattle.normal_form.specs.declared.reading.Reading.{Reading}
 use Rattle.normal_form.specs.declared.reading.Syllable.{Syllable}
 use Rattle.normal_form.specs.declared.reading.Syllable.the-variants as Syllable
 use Rattle.normal_form.specs.declared.steps.Step.{Step}
 use Rattle.normal_form.specs.declared.steps.Tail.{Tail}
-use Rattle.normal_form.specs.Job6.{Ranged}
-use Rattle.normal_form.specs.Cliffords.{mulC}
+use Rattle.clifford.specs.Job6.{Ranged}
+use Rattle.clifford.specs.Cliffords.{mulC}
 use Rattle.normal_form.specs.Readings.{State, state, syllable, prefix, prefix-length, start, tee, read, run, run-append, run-size, size, sizeOf}
 use Rattle.normal_form.specs.Pairs.{kind₂, next₂, kind-few, after, two}
 use Rattle.normal_form.specs.Syllables.{syllableNumber, syllableOf, made, named, named-word, syllable-size, syllable-few}

@@ -1,9 +1,4 @@
--- What jobs 3, 5 and 6 promise, and the proofs of it.
-pub mod Job6
-pub mod Remainder
-pub mod Words
-pub mod Tables
-pub mod Cliffords
+-- What jobs 3 and 5 promise, and the proofs of it.
 pub mod Readings
 pub mod Pairs
 pub mod Syllables

@@ -8,13 +8,13 @@ use lib.Dec.{T, eqb, eqb→eq}
 use mir.Facts.{and-yes}
 use Rattle.exact.specs.Meaning.Word.{Letter, I, H, S, X, W, T′}
 use Rattle.exact.specs.Meaning.Normal.{Syllable, HT, SHT}
-use Rattle.normal_form.specs.declared.clifford.Axis.{Axis}
-use Rattle.normal_form.specs.declared.clifford.Axis.the-variants as Axis
-use Rattle.normal_form.specs.declared.clifford.Clifford.{Clifford}
-use Rattle.normal_form.specs.Job6.{letters, Ranged, axisNumber, axis-at, one-Clifford}
-use Rattle.normal_form.specs.Words.{_≈_, by-eq, by-sym, _⨾_, under, before}
-use Rattle.normal_form.specs.Tables.{quadruple, all, at, all3, at3}
-use Rattle.normal_form.specs.Cliffords.{mulC, mul-ranged, tconjC, tconj-ranged, few, cliffordX, cliffordS, cliffordW, cliffordH, cliffordHS, cliffordSHS, H-ranged}
+use Rattle.clifford.specs.declared.Axis.{Axis}
+use Rattle.clifford.specs.declared.Axis.the-variants as Axis
+use Rattle.clifford.specs.declared.Clifford.{Clifford}
+use Rattle.clifford.specs.Job6.{letters, Ranged, axisNumber, axis-at, one-Clifford}
+use Rattle.clifford.specs.Words.{_≈_, by-eq, by-sym, _⨾_, under, before}
+use Rattle.clifford.specs.Tables.{quadruple, all, at, all3, at3}
+use Rattle.clifford.specs.Cliffords.{mulC, mul-ranged, tconjC, tconj-ranged, few, cliffordX, cliffordS, cliffordW, cliffordH, cliffordHS, cliffordSHS, H-ranged}
 use Rattle.normal_form.specs.Readings.{State, state, tee, read, times-Clifford, S-ranged, HS-ranged, SHS-ranged}
 
 -- ---- one letter: 0 where the syllables stay, 1 where a T meets the last of them, 2 where HT is added and 3 where SHT is

@@ -14,13 +14,13 @@ use Rattle.exact.specs.Matrices.Same.{Same-of}
 use Rattle.exact.specs.Matrices.Test.{same-by}
 use Rattle.exact.specs.Unique.Normal.{spell-word}
 use Rattle.exact.specs.Unique.Tails.{tees-append}
-use Rattle.normal_form.specs.declared.clifford.Axis.{Axis}
-use Rattle.normal_form.specs.declared.clifford.Axis.the-variants as Axis
-use Rattle.normal_form.specs.declared.clifford.Clifford.{Clifford}
-use Rattle.normal_form.specs.declared.clifford.Coset.{Coset}
-use Rattle.normal_form.specs.Job6.{letters, axisWord, Ranged, Split}
-use Rattle.normal_form.specs.Words.{_≈_, by-refl, by-eq, by-sym, _⨾_, under, before}
-use Rattle.normal_form.specs.Cliffords.{mulC, mul-right, mul-ranged, splitC, split-right, tconjC, tconj-ranged, tconj-same, few, cliffordI, cliffordX, cliffordS, cliffordW, cliffordH, cliffordHS, cliffordSHS, H-is, HS-is, SHS-is, H-ranged}
+use Rattle.clifford.specs.declared.Axis.{Axis}
+use Rattle.clifford.specs.declared.Axis.the-variants as Axis
+use Rattle.clifford.specs.declared.Clifford.{Clifford}
+use Rattle.clifford.specs.declared.Coset.{Coset}
+use Rattle.clifford.specs.Job6.{letters, axisWord, Ranged, Split}
+use Rattle.clifford.specs.Words.{_≈_, by-refl, by-eq, by-sym, _⨾_, under, before}
+use Rattle.clifford.specs.Cliffords.{mulC, mul-right, mul-ranged, splitC, split-right, tconjC, tconj-ranged, tconj-same, few, cliffordI, cliffordX, cliffordS, cliffordW, cliffordH, cliffordHS, cliffordSHS, H-is, HS-is, SHS-is, H-ranged}
 
 -- the syllables with the last one first
 pub record State : Type 0 where

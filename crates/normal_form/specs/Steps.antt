@@ -11,15 +11,15 @@ use lib.ListN.{getD, length}
 use mir.Facts.{and-yes}
 use Rattle.exact.specs.Meaning.Word.{Letter, I, H, S, X, W, T′, job3}
 use Rattle.exact.specs.Cases.Letters.{letterOf}
-use Rattle.normal_form.specs.declared.clifford.Axis.{Axis}
-use Rattle.normal_form.specs.declared.clifford.Axis.the-variants as Axis
-use Rattle.normal_form.specs.declared.clifford.Clifford.{Clifford}
-use Rattle.normal_form.specs.declared.clifford.Coset.{Coset}
+use Rattle.clifford.specs.declared.Axis.{Axis}
+use Rattle.clifford.specs.declared.Axis.the-variants as Axis
+use Rattle.clifford.specs.declared.Clifford.{Clifford}
+use Rattle.clifford.specs.declared.Coset.{Coset}
 use Rattle.normal_form.specs.declared.steps.Step.{Step}
 use Rattle.normal_form.specs.declared.steps.Tail.{Tail}
-use Rattle.normal_form.specs.Job6.{Ranged, axisNumber, axis-at}
-use Rattle.normal_form.specs.Tables.{quadruple, all, at}
-use Rattle.normal_form.specs.Cliffords.{mulC, splitC, split-right}
+use Rattle.clifford.specs.Job6.{Ranged, axisNumber, axis-at}
+use Rattle.clifford.specs.Tables.{quadruple, all, at}
+use Rattle.clifford.specs.Cliffords.{mulC, splitC, split-right}
 use Rattle.normal_form.specs.Pairs.{kind₂, next₂, eqClifford, eqClifford-is}
 use Rattle.normal_form.specs.Syllables.{syllableOf, made}
 

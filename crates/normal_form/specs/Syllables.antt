@@ -9,10 +9,10 @@ use lib.Dec.{eqb}
 use lib.ListN.{length}
 use Rattle.exact.specs.Meaning.Word.{Letter, H, S, T′}
 use Rattle.exact.specs.Meaning.Normal as normal
-use Rattle.normal_form.specs.declared.clifford.Clifford.{Clifford}
+use Rattle.clifford.specs.declared.Clifford.{Clifford}
 use Rattle.normal_form.specs.declared.reading.Syllable.{Syllable}
 use Rattle.normal_form.specs.declared.reading.Syllable.the-variants as Syllable
-use Rattle.normal_form.specs.Cliffords.{cliffordI, cliffordS, cliffordHS, cliffordSHS}
+use Rattle.clifford.specs.Cliffords.{cliffordI, cliffordS, cliffordHS, cliffordSHS}
 use Rattle.normal_form.specs.Readings.{syllable}
 
 abbrev pub syllableNumber : Syllable → ℕ

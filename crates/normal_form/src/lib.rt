@@ -1,4 +1,4 @@
-// Cliffords and normal words: job 6 (clifford), and jobs 3 and 5.
+// Normal words: jobs 3 and 5.
 ghost use mathlib.Core.Path.{_≡_};
 ghost use Prim.Native.Nat.{_≤_};
 ghost use lib.ListN.{length};
@@ -10,7 +10,6 @@ use reading::EMPTY;
 use reading::Read;
 use steps::TABLE;
 
-pub mod clifford;
 pub mod reading;
 pub mod steps;
 pub mod writing;

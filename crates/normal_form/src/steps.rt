@@ -2,11 +2,11 @@
 ghost use mathlib.Core.Path.{_≡_};
 ghost use Prim.Native.Nat.{_<_};
 ghost use Rattle.exact.specs.Cases.Letters.{letterOf};
-ghost use Rattle.normal_form.specs.Cliffords.{splitC};
+ghost use Rattle.clifford.specs.Cliffords.{splitC};
 ghost use Rattle.normal_form.specs.Steps.{letterNumber, letterAt, Right, Fits, moved, Stepped, Gained, axisAt, tailOf};
-use crate::clifford::Axis;
-use crate::clifford::Clifford;
-use crate::clifford::Coset;
+use clifford::Axis;
+use clifford::Clifford;
+use clifford::Coset;
 
 // The Clifford (a,b,c,d) by its code 8a + 4b + c and its phase d.
 pub struct Tail {

@@ -13,11 +13,11 @@ ghost use Rattle.normal_form.specs.Put.{Put};
 ghost use Rattle.normal_form.specs.Endings.{essesOf, aitchesOf, endWord, endSize, Sized, letterIn, Ended};
 ghost use Rattle.normal_form.specs.Answers.{codesWord, Writes};
 use crate::Written;
-use crate::clifford::Axis;
 use crate::reading::Reading;
 use crate::reading::Syllable;
 use crate::refused;
 use crate::steps::Tail;
+use clifford::Axis;
 
 // How often each letter stands in a tail: S, H, I, X, S and W, in this order.
 pub struct Ending {

@@ -1,8 +1,7 @@
 // A job on a payload, and its answer in text.
+use clifford::Axis;
+use clifford::Clifford;
 use normal_form::Written;
-use normal_form::clifford;
-use normal_form::clifford::Axis;
-use normal_form::clifford::Clifford;
 use record::Record;
 use ring::ZOmega;
 use shown::number;

@@ -1,8 +1,8 @@
 -- `dunrossel::dunrossel_clifford_inverse` meets its contract: job 6 on the numbers of the array.
 use mathlib.Core.Path.{subst}
 use denote.Ref.{now}
-use Rattle.normal_form.specs.Job6.{Inverse}
-use Rattle.normal_form.specs.declared.clifford.Clifford.{Clifford}
+use Rattle.clifford.specs.Job6.{Inverse}
+use Rattle.clifford.specs.declared.Clifford.{Clifford}
 use Rattle.dunrossel.specs.Cliffords.{argument-held}
 use borrow.Author.Needs.{needs}
 use Rattle.dunrossel.proofs.dunrossel_clifford_inverse.Statement.{statement}

@@ -2,7 +2,7 @@
 use mathlib.Core.Path.{refl}
 use native.Mathlib.Omega.{arith}
 use borrow.Author.Needs.{needs}
-use Rattle.normal_form.specs.Cliffords.{mulC, invC, tconjC}
+use Rattle.clifford.specs.Cliffords.{mulC, invC, tconjC}
 use Rattle.normal_form.specs.Outcome.{long}
 use Rattle.normal_form.specs.Steps.{right}
 use Rattle.normal_form.proofs.answer.Statement.{statement}

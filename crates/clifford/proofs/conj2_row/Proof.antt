@@ -1,0 +1,17 @@
+-- `clifford::conj2_row` meets its contract. Assumes nothing.
+use borrow.Author.Needs.{needs}
+use Rattle.clifford.specs.Tables.{conj2-row}
+use Rattle.clifford.proofs.conj2_row.Statement.{statement}
+use Rattle.clifford.proofs.conj2_row.Tie as tie
+
+mul-result : tie.Need-mul-result
+mul-result c = search needs
+
+array-copy-out-result : tie.Need-array-copy-out-result
+array-copy-out-result c = search needs
+
+returns : tie.Need-returns
+returns c = conj2-row (c .before .args .i) (c .before .pre)
+
+pub conj2-row-spec : {M : Type 1} → statement M
+conj2-row-spec = tie.close (tie.spec mul-result array-copy-out-result returns)

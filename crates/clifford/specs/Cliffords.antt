@@ -1,0 +1,273 @@
+-- Products, inverses, splits and the passing of a T, as the tables give them, are right for matrices. Assumes nothing.
+use mathlib.Core.Path.{_≡_, refl, sym, _∙_, ap}
+use mathlib.Core.List.{List, [], _∷_, _++_, append-assoc, append-nil}
+use Prim.Native.Nat.{ℕ, zero, suc, _+_, _-_, _*_, _%_, _<_, _≤_}
+use native.Mathlib.Omega.{arith}
+use Rattle.exact.specs.Meaning.Word.{Letter, H, S, X, W, T′, word}
+use Rattle.exact.specs.Meaning.Normal.{times}
+use Rattle.exact.specs.Meaning.Clifford.{cycle}
+use Rattle.exact.specs.Matrices.Test.{same-by}
+use Rattle.clifford.specs.declared.Axis.{Axis}
+use Rattle.clifford.specs.declared.Axis.the-variants as Axis
+use Rattle.clifford.specs.declared.Clifford.{Clifford}
+use Rattle.clifford.specs.declared.Conj2.{Conj2}
+use Rattle.clifford.specs.declared.Coset.{Coset}
+use Rattle.clifford.specs.declared.Tconj.{Tconj}
+use Rattle.clifford.specs.Job6.{letters, axisWord, Ranged, Product, Inverse, Split}
+use Rattle.clifford.specs.Words.{_≈_, by-refl, by-eq, by-sym, _⨾_, join, under, before, other-side, lessened, cycles, exes, esses, doubleyous, pass, pass-S}
+use Rattle.clifford.specs.Tables.{quadruple, conj2, conj3, cinv, tconj, Row2, Row3, RowInv, RowT, conj2-right, conj3-right, conj3-ranged, cinv-right, tconj-right}
+
+-- ---- the numbers brought into their ranges
+abbrev pub reduce : ℕ → ℕ → ℕ → ℕ → Clifford
+reduce a b c d = quadruple (a % 3) (b % 2) (c % 4) (d % 8)
+
+pub reduce-ranged : (a b c d : ℕ) → Ranged (reduce a b c d)
+reduce-ranged a b c d = record { a-few = omega arith; b-few = omega arith; c-few = omega arith; d-few = omega arith }
+
+pub reduce-same : (a b c d : ℕ) → letters (quadruple a b c d) ≈ letters (reduce a b c d)
+reduce-same a b c d = join (lessened cycles a) (join (lessened exes b) (join (lessened esses c) (lessened doubleyous d)))
+
+-- ---- product
+unfoldable pub mulC : Clifford → Clifford → Clifford
+mulC x y =
+    let r = conj3 (y .a * 8 + x .b * 4 + x .c) in
+    let s = conj2 (r .c * 2 + y .b) in
+    reduce (x .a + r .a) (r .b + y .b) (s .c + y .c) (r .d + s .d + x .d + y .d)
+
+-- X^b S^c E^a past one another, and then S past X, with every omega at the end
+arranged : (A B C A′ B′ C′ E X₁ S₁ S₂ : List Letter) (d d′ d₁ d₂ : ℕ) → B ++ (C ++ A′) ≈ E ++ (X₁ ++ (S₁ ++ times d₁ W)) → S₁ ++ B′ ≈ B′ ++ (S₂ ++ times d₂ W) → (A ++ (B ++ (C ++ times d W))) ++ (A′ ++ (B′ ++ (C′ ++ times d′ W))) ≈ (A ++ E) ++ ((X₁ ++ B′) ++ ((S₂ ++ C′) ++ (times d′ W ++ (times d W ++ (times d₁ W ++ times d₂ W)))))
+arranged A B C A′ B′ C′ E X₁ S₁ S₂ d d′ d₁ d₂ three two =
+    by-eq {v = A ++ (B ++ (C ++ (D ++ R)))} (simp append-assoc)
+    ⨾ under A (under B (under C (pass d R)))
+    ⨾ by-eq {v = A ++ ((B ++ (C ++ A′)) ++ (B′ ++ (C′ ++ (D′ ++ D))))} (simp append-assoc)
+    ⨾ under A (before three (B′ ++ (C′ ++ (D′ ++ D))))
+    ⨾ by-eq {v = A ++ (E ++ (X₁ ++ (S₁ ++ (times d₁ W ++ (B′ ++ (C′ ++ (D′ ++ D)))))))} (simp append-assoc)
+    ⨾ under A (under E (under X₁ (under S₁ (pass d₁ (B′ ++ (C′ ++ (D′ ++ D)))))))
+    ⨾ by-eq {v = A ++ (E ++ (X₁ ++ ((S₁ ++ B′) ++ (C′ ++ (D′ ++ (D ++ times d₁ W))))))} (simp append-assoc)
+    ⨾ under A (under E (under X₁ (before two (C′ ++ (D′ ++ (D ++ times d₁ W))))))
+    ⨾ by-eq {v = A ++ (E ++ (X₁ ++ (B′ ++ (S₂ ++ (times d₂ W ++ (C′ ++ (D′ ++ (D ++ times d₁ W))))))))} (simp append-assoc)
+    ⨾ under A (under E (under X₁ (under B′ (under S₂ (pass d₂ (C′ ++ (D′ ++ (D ++ times d₁ W))))))))
+    ⨾ by-eq (simp append-assoc)
+  where
+    D : List Letter
+    D = times d W
+
+    D′ : List Letter
+    D′ = times d′ W
+
+    R : List Letter
+    R = A′ ++ (B′ ++ (C′ ++ times d′ W))
+
+pub mul-right : (x y : Clifford) → Ranged x → Ranged y → Product x y (mulC x y)
+unfolding mulC
+mul-right x y hx hy = record { ranged = reduce-ranged (x .a + r .a) (r .b + y .b) (s .c + y .c) (r .d + s .d + x .d + y .d); same = by-sym whole .same }
+  where
+    r : Clifford
+    r = conj3 (y .a * 8 + x .b * 4 + x .c)
+
+    s : Conj2
+    s = conj2 (r .c * 2 + y .b)
+
+    hr : Ranged (conj3 (y .a * 8 + x .b * 4 + x .c))
+    hr = conj3-ranged (y .a * 8 + x .b * 4 + x .c) (omega (arith, hx .b-few, hx .c-few, hy .a-few))
+
+    gathered : (A E X₁ B′ S₂ C′ D′ D W₁ W₂ : ℕ) → (cycle A ++ cycle E) ++ ((times X₁ X ++ times B′ X) ++ ((times S₂ S ++ times C′ S) ++ (times D′ W ++ (times D W ++ (times W₁ W ++ times W₂ W))))) ≡ letters (quadruple (A + E) (X₁ + B′) (S₂ + C′) (D′ + (D + (W₁ + W₂))))
+    gathered A E X₁ B′ S₂ C′ D′ D W₁ W₂ =
+        rw (cycles .add A E, exes .add X₁ B′, esses .add S₂ C′, doubleyous .add D′ (D + (W₁ + W₂)), doubleyous .add D (W₁ + W₂), doubleyous .add W₁ W₂)
+
+    ordered : r .d + s .d + x .d + y .d ≡ y .d + (x .d + (r .d + s .d))
+    ordered = omega arith
+
+    whole : letters x ++ letters y ≈ letters (mulC x y)
+    whole =
+        arranged (cycle (x .a)) (times (x .b) X) (times (x .c) S) (cycle (y .a)) (times (y .b) X) (times (y .c) S) (cycle (r .a)) (times (r .b) X) (times (r .c) S) (times (s .c) S) (x .d) (y .d) (r .d) (s .d) (conj3-right (y .a) (x .b) (x .c) (hy .a-few) (hx .b-few) (hx .c-few)) (conj2-right (r .c) (y .b) (hr .c-few) (hy .b-few))
+        ⨾ by-eq (gathered (x .a) (r .a) (r .b) (y .b) (s .c) (y .c) (y .d) (x .d) (r .d) (s .d))
+        ⨾ by-eq (ap (λ n. letters (quadruple (x .a + r .a) (r .b + y .b) (s .c + y .c) n)) (sym ordered))
+        ⨾ reduce-same (x .a + r .a) (r .b + y .b) (s .c + y .c) (r .d + s .d + x .d + y .d)
+
+pub mul-ranged : (x y : Clifford) → Ranged (mulC x y)
+unfolding mulC
+mul-ranged x y =
+    let r = conj3 (y .a * 8 + x .b * 4 + x .c) in
+    let s = conj2 (r .c * 2 + y .b) in
+    reduce-ranged (x .a + r .a) (r .b + y .b) (s .c + y .c) (r .d + s .d + x .d + y .d)
+
+-- ---- inverse
+unfoldable pub invC : Clifford → Clifford
+invC x = let r = cinv (x .a * 8 + x .b * 4 + x .c) in reduce (r .a) (r .b) (r .c) (r .d + (8 - x .d))
+
+pub inv-ranged : (x : Clifford) → Ranged (invC x)
+unfolding invC
+inv-ranged x = let r = cinv (x .a * 8 + x .b * 4 + x .c) in reduce-ranged (r .a) (r .b) (r .c) (r .d + (8 - x .d))
+
+pub inv-right : (x : Clifford) → Ranged x → Inverse x (invC x)
+unfolding invC
+inv-right x hx = record { ranged = inv-ranged x; after = undone .same; before = other-side (letters x) (letters (invC x)) undone .same }
+  where
+    r : Clifford
+    r = cinv (x .a * 8 + x .b * 4 + x .c)
+
+    turned : (A B C R : List Letter) (d : ℕ) → (A ++ (B ++ (C ++ times d W))) ++ R ≈ (A ++ (B ++ (C ++ R))) ++ times d W
+    turned A B C R d =
+        by-eq {v = A ++ (B ++ (C ++ (times d W ++ R)))} (simp append-assoc)
+        ⨾ under A (under B (under C (pass d R)))
+        ⨾ by-eq (simp append-assoc)
+
+    -- eight omegas more are none
+    filled : (A B C : List Letter) (n d : ℕ) → d ≤ 8 → (A ++ (B ++ (C ++ times (n + (8 - d)) W))) ++ times d W ≈ A ++ (B ++ (C ++ times n W))
+    filled A B C n d h =
+        by-eq {v = A ++ (B ++ (C ++ (times (n + (8 - d)) W ++ times d W)))} (simp append-assoc)
+        ⨾ under A (under B (under C (by-eq (sym (doubleyous .add (n + (8 - d)) d) ∙ ap (λ k. times k W) (eight n d h) ∙ doubleyous .add n 8) ⨾ under (times n W) (doubleyous .round) ⨾ by-eq (append-nil (times n W)))))
+      where
+        eight : (n d : ℕ) → d ≤ 8 → n + (8 - d) + d ≡ n + 8
+        eight n d h = omega arith
+
+    undone : letters x ++ letters (invC x) ≈ []
+    undone =
+        under (letters x) (by-sym (reduce-same (r .a) (r .b) (r .c) (r .d + (8 - x .d))))
+        ⨾ turned (cycle (x .a)) (times (x .b) X) (times (x .c) S) (letters (quadruple (r .a) (r .b) (r .c) (r .d + (8 - x .d)))) (x .d)
+        ⨾ by-eq {v = (cycle (x .a) ++ (times (x .b) X ++ times (x .c) S)) ++ (letters (quadruple (r .a) (r .b) (r .c) (r .d + (8 - x .d))) ++ times (x .d) W)} (simp append-assoc)
+        ⨾ under (cycle (x .a) ++ (times (x .b) X ++ times (x .c) S)) (filled (cycle (r .a)) (times (r .b) X) (times (r .c) S) (r .d) (x .d) (omega (arith, hx .d-few)))
+        ⨾ by-eq (simp append-assoc)
+        ⨾ cinv-right (x .a) (x .b) (x .c) (hx .a-few) (hx .b-few) (hx .c-few)
+
+-- ---- the constants: each has the matrix of its letters
+by-test : (u v : List Letter) → Rattle.exact.specs.Meaning.Matrix.Same (word u) (word v) → u ≈ v
+by-test u v h = record { same = h }
+
+abbrev pub cliffordI : Clifford
+cliffordI = quadruple 0 0 0 0
+
+abbrev pub cliffordX : Clifford
+cliffordX = quadruple 0 1 0 0
+
+abbrev pub cliffordS : Clifford
+cliffordS = quadruple 0 0 1 0
+
+abbrev pub cliffordW : Clifford
+cliffordW = quadruple 0 0 0 1
+
+abbrev pub cliffordH : Clifford
+cliffordH = quadruple 1 0 1 5
+
+abbrev pub cliffordSH : Clifford
+cliffordSH = quadruple 2 0 0 3
+
+abbrev pub cliffordHS : Clifford
+cliffordHS = quadruple 1 0 2 5
+
+abbrev pub cliffordSHS : Clifford
+cliffordSHS = quadruple 2 0 1 3
+
+pub H-is : letters cliffordH ≈ H ∷ []
+H-is = by-test (letters cliffordH) (H ∷ []) (same-by (word (letters cliffordH)) (word (H ∷ [])) tt)
+
+pub SH-is : letters cliffordSH ≈ S ∷ H ∷ []
+SH-is = by-test (letters cliffordSH) (S ∷ H ∷ []) (same-by (word (letters cliffordSH)) (word (S ∷ H ∷ [])) tt)
+
+pub HS-is : letters cliffordHS ≈ H ∷ S ∷ []
+HS-is = by-test (letters cliffordHS) (H ∷ S ∷ []) (same-by (word (letters cliffordHS)) (word (H ∷ S ∷ [])) tt)
+
+pub SHS-is : letters cliffordSHS ≈ S ∷ H ∷ S ∷ []
+SHS-is = by-test (letters cliffordSHS) (S ∷ H ∷ S ∷ []) (same-by (word (letters cliffordSHS)) (word (S ∷ H ∷ S ∷ [])) tt)
+
+pub few : (a b c d : ℕ) → a < 3 → b < 2 → c < 4 → d < 8 → Ranged (quadruple a b c d)
+few a b c d ha hb hc hd = record { a-few = ha; b-few = hb; c-few = hc; d-few = hd }
+
+pub H-ranged : Ranged cliffordH
+H-ranged = few 1 0 1 5 (omega arith) (omega arith) (omega arith) (omega arith)
+
+pub SH-ranged : Ranged cliffordSH
+SH-ranged = few 2 0 0 3 (omega arith) (omega arith) (omega arith) (omega arith)
+
+-- ---- coset split
+abbrev pub splitAt : ℕ → Clifford → Coset
+splitAt zero x = record { axis = Axis.I; rest = x }
+splitAt (suc zero) x = record { axis = Axis.H; rest = mulC (invC cliffordH) x }
+splitAt (suc (suc n)) x = record { axis = Axis.SH; rest = mulC (invC cliffordSH) x }
+
+abbrev pub splitC : Clifford → Coset
+splitC x = splitAt (x .a) x
+
+-- an axis taken from the left leaves the rest
+taken : (q x : Clifford) (u : List Letter) → Ranged q → Ranged x → letters q ≈ u → letters x ≈ u ++ letters (mulC (invC q) x)
+taken q x u hq hx h =
+    by-sym
+    (under u (record { same = mul-right (invC q) x (inv-ranged q) hx .same })
+    ⨾ by-eq (sym (append-assoc u (letters (invC q)) (letters x)))
+    ⨾ before {v = []} (before (by-sym h) (letters (invC q)) ⨾ record { same = inv-right q hq .after }) (letters x))
+
+split-is : (n : ℕ) (x : Clifford) → Ranged x → x .a ≡ n → Split x (splitAt n x)
+unfolding mulC invC
+split-is zero x hx e = record { ranged = hx; axis-is = sym e; rest-a = e; same = by-refl (letters x) .same }
+split-is (suc zero) x hx e = record { ranged = mul-ranged (invC cliffordH) x; axis-is = sym e; rest-a = rw e; same = taken cliffordH x (H ∷ []) H-ranged hx H-is .same }
+split-is (suc (suc zero)) x hx e = record { ranged = mul-ranged (invC cliffordSH) x; axis-is = sym e; rest-a = rw e; same = taken cliffordSH x (S ∷ H ∷ []) SH-ranged hx SH-is .same }
+split-is (suc (suc (suc n))) x hx e = absurd (omega (arith, hx .a-few))
+
+pub split-right : (x : Clifford) → Ranged x → Split x (splitC x)
+split-right x hx = split-is (x .a) x hx refl
+
+-- ---- a T that comes after a Clifford
+unfoldable pub tconjC : Clifford → Coset
+tconjC x = let r = tconj (x .a * 2 + x .b) in record { axis = r .axis; rest = reduce 0 (x .b) (x .c + r .c) (x .d + r .d) }
+
+pub tconj-ranged : (x : Clifford) → Ranged (tconjC x .rest)
+unfolding tconjC
+tconj-ranged x = let r = tconj (x .a * 2 + x .b) in reduce-ranged 0 (x .b) (x .c + r .c) (x .d + r .d)
+
+pub tconj-same : (x : Clifford) → Ranged x → letters x ++ (T′ ∷ []) ≈ axisWord (tconjC x .axis) ++ (T′ ∷ letters (tconjC x .rest))
+unfolding tconjC
+tconj-same x hx =
+    passed (cycle (x .a)) (times (x .b) X) (axisWord (r .axis)) (x .c) (x .d) (r .c) (r .d) (tconj-right (x .a) (x .b) (hx .a-few) (hx .b-few))
+    ⨾ under (axisWord (r .axis)) (under (T′ ∷ []) (reduce-same 0 (x .b) (x .c + r .c) (x .d + r .d)))
+  where
+    r : Tconj
+    r = tconj (x .a * 2 + x .b)
+
+    passed : (A B F : List Letter) (c d c′ d′ : ℕ) → A ++ (B ++ (T′ ∷ [])) ≈ F ++ (T′ ∷ (B ++ (times c′ S ++ times d′ W))) → (A ++ (B ++ (times c S ++ times d W))) ++ (T′ ∷ []) ≈ F ++ (T′ ∷ (B ++ (times (c + c′) S ++ times (d + d′) W)))
+    passed A B F c d c′ d′ h =
+        by-eq {v = A ++ (B ++ (times c S ++ (times d W ++ (T′ ∷ []))))} (simp append-assoc)
+        ⨾ under A (under B (under (times c S) (pass d (T′ ∷ []))))
+        ⨾ by-eq {v = A ++ (B ++ ((times c S ++ (T′ ∷ [])) ++ times d W))} (simp append-assoc)
+        ⨾ under A (under B (before (pass-S c) (times d W)))
+        ⨾ by-eq {v = (A ++ (B ++ (T′ ∷ []))) ++ (times c S ++ times d W)} (simp append-assoc)
+        ⨾ before h (times c S ++ times d W)
+        ⨾ by-eq {v = F ++ (T′ ∷ (B ++ (times c′ S ++ (times d′ W ++ (times c S ++ times d W)))))} (simp append-assoc)
+        ⨾ under F (under (T′ ∷ []) (under B (under (times c′ S) (pass d′ (times c S ++ times d W)))))
+        ⨾ by-eq {v = F ++ (T′ ∷ (B ++ ((times c′ S ++ times c S) ++ (times d W ++ times d′ W))))} (simp append-assoc)
+        ⨾ by-eq (rw (← esses .add c′ c, ← doubleyous .add d d′, native.Mathlib.Nat.add-comm c′ c))
+
+-- ---- what the program does, row by row
+pub mul-by : (x y r : Clifford) (s : Conj2) → Row3 (y .a * 8 + x .b * 4 + x .c) r → Row2 (r .c * 2 + y .b) s → reduce (x .a + r .a) (r .b + y .b) (s .c + y .c) (r .d + s .d + x .d + y .d) ≡ mulC x y
+unfolding mulC
+mul-by x y r s p q = rw (q .is, p .is)
+
+pub inv-by : (x r : Clifford) → RowInv (x .a * 8 + x .b * 4 + x .c) r → reduce (r .a) (r .b) (r .c) (r .d + (8 - x .d)) ≡ invC x
+unfolding invC
+inv-by x r p = rw (p .is)
+
+pub tconj-by : (x q : Clifford) (r : Tconj) → RowT (x .a * 2 + x .b) r → q ≡ reduce 0 (x .b) (x .c + r .c) (x .d + r .d) → _≡_ {A = Coset} (record { axis = r .axis; rest = q }) (tconjC x)
+unfolding tconjC
+tconj-by x q r p e = rw (e, p .is)
+
+pub split-by : (x : Clifford) (n : ℕ) → x .a ≡ n → _≡_ {A = Coset} (splitAt n x) (splitC x)
+split-by x n e = rw e
+
+-- what is neither 0 nor 1 is 2
+pub split-last : (x : Clifford) → (x .a ≡ 0 → ⊥) → (x .a ≡ 1 → ⊥) → _≡_ {A = Coset} (splitAt 2 x) (splitC x)
+split-last x f g = go (x .a) f g
+  where
+    go : (n : ℕ) → (n ≡ 0 → ⊥) → (n ≡ 1 → ⊥) → _≡_ {A = Coset} (splitAt 2 x) (splitAt n x)
+    go zero f g = absurd (f refl)
+    go (suc zero) f g = absurd (g refl)
+    go (suc (suc n)) f g = refl
+
+-- ---- job 6
+pub product-job : (x y x′ y′ r : Clifford) → x ≡ x′ → y ≡ y′ → Ranged x → Ranged y → r ≡ mulC x y → Product x′ y′ r
+product-job x y x′ y′ r e f hx hy g = rw (← e, ← f, g) (mul-right x y hx hy)
+
+pub inverse-job : (x x′ r : Clifford) → x ≡ x′ → Ranged x → r ≡ invC x → Inverse x′ r
+inverse-job x x′ r e hx g = rw (← e, g) (inv-right x hx)
+
+pub split-job : (x x′ : Clifford) (r : Coset) → x ≡ x′ → Ranged x → r ≡ splitC x → Split x′ r
+split-job x x′ r e hx g = rw (← e, g) (split-right x hx)
