@@ -3,10 +3,9 @@ use mathlib.Core.Path.{_≡_, refl, sym, _∙_, ap}
 use mathlib.Core.List.{List, [], _∷_, _++_, append-assoc, append-nil}
 use Prim.Native.Nat.{ℕ, zero, suc, _+_, _-_, _*_, _%_, _<_, _≤_}
 use native.Mathlib.Omega.{arith}
-use Rattle.exact.specs.Meaning.Word.{Letter, H, S, X, W, T′, word}
+use Rattle.exact.specs.Meaning.Word.{Letter, H, S, X, W, T′}
 use Rattle.exact.specs.Meaning.Normal.{times}
 use Rattle.exact.specs.Meaning.Clifford.{cycle}
-use Rattle.exact.specs.Matrices.Test.{same-by}
 use Rattle.clifford.specs.declared.Axis.{Axis}
 use Rattle.clifford.specs.declared.Axis.the-variants as Axis
 use Rattle.clifford.specs.declared.Clifford.{Clifford}
@@ -14,7 +13,7 @@ use Rattle.clifford.specs.declared.Conj2.{Conj2}
 use Rattle.clifford.specs.declared.Coset.{Coset}
 use Rattle.clifford.specs.declared.Tconj.{Tconj}
 use Rattle.clifford.specs.Job6.{letters, axisWord, Ranged, Product, Inverse, Split}
-use Rattle.clifford.specs.Words.{_≈_, by-refl, by-eq, by-sym, _⨾_, join, under, before, other-side, lessened, cycles, exes, esses, doubleyous, pass, pass-S}
+use Rattle.clifford.specs.Words.{_≈_, by-test, by-refl, by-eq, by-sym, _⨾_, join, under, before, other-side, lessened, cycles, exes, esses, doubleyous, pass, pass-S}
 use Rattle.clifford.specs.Tables.{quadruple, conj2, conj3, cinv, tconj, Row2, Row3, RowInv, RowT, conj2-right, conj3-right, conj3-ranged, cinv-right, tconj-right}
 
 -- ---- the numbers brought into their ranges
@@ -132,9 +131,6 @@ inv-right x hx = record { ranged = inv-ranged x; after = undone .same; before = 
         ⨾ cinv-right (x .a) (x .b) (x .c) (hx .a-few) (hx .b-few) (hx .c-few)
 
 -- ---- the constants: each has the matrix of its letters
-by-test : (u v : List Letter) → Rattle.exact.specs.Meaning.Matrix.Same (word u) (word v) → u ≈ v
-by-test u v h = record { same = h }
-
 abbrev pub cliffordI : Clifford
 cliffordI = quadruple 0 0 0 0
 
@@ -160,16 +156,16 @@ abbrev pub cliffordSHS : Clifford
 cliffordSHS = quadruple 2 0 1 3
 
 pub H-is : letters cliffordH ≈ H ∷ []
-H-is = by-test (letters cliffordH) (H ∷ []) (same-by (word (letters cliffordH)) (word (H ∷ [])) tt)
+H-is = by-test (letters cliffordH) (H ∷ []) tt
 
 pub SH-is : letters cliffordSH ≈ S ∷ H ∷ []
-SH-is = by-test (letters cliffordSH) (S ∷ H ∷ []) (same-by (word (letters cliffordSH)) (word (S ∷ H ∷ [])) tt)
+SH-is = by-test (letters cliffordSH) (S ∷ H ∷ []) tt
 
 pub HS-is : letters cliffordHS ≈ H ∷ S ∷ []
-HS-is = by-test (letters cliffordHS) (H ∷ S ∷ []) (same-by (word (letters cliffordHS)) (word (H ∷ S ∷ [])) tt)
+HS-is = by-test (letters cliffordHS) (H ∷ S ∷ []) tt
 
 pub SHS-is : letters cliffordSHS ≈ S ∷ H ∷ S ∷ []
-SHS-is = by-test (letters cliffordSHS) (S ∷ H ∷ S ∷ []) (same-by (word (letters cliffordSHS)) (word (S ∷ H ∷ S ∷ [])) tt)
+SHS-is = by-test (letters cliffordSHS) (S ∷ H ∷ S ∷ []) tt
 
 pub few : (a b c d : ℕ) → a < 3 → b < 2 → c < 4 → d < 8 → Ranged (quadruple a b c d)
 few a b c d ha hb hc hd = record { a-few = ha; b-few = hb; c-few = hc; d-few = hd }

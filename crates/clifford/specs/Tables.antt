@@ -10,14 +10,14 @@ use mir.Facts.{and-yes}
 use Rattle.exact.specs.Meaning.Word.{Letter, S, X, W, T′, word}
 use Rattle.exact.specs.Meaning.Normal.{times}
 use Rattle.exact.specs.Meaning.Clifford.{cycle}
-use Rattle.exact.specs.Matrices.Test.{sameTest, same-by}
+use Rattle.exact.specs.Matrices.Test.{sameTest}
 use Rattle.clifford.specs.declared.Axis.{Axis}
 use Rattle.clifford.specs.declared.Axis.the-variants as Axis
 use Rattle.clifford.specs.declared.Clifford.{Clifford}
 use Rattle.clifford.specs.declared.Conj2.{Conj2}
 use Rattle.clifford.specs.declared.Tconj.{Tconj}
 use Rattle.clifford.specs.Job6.{letters, axisWord, Ranged}
-use Rattle.clifford.specs.Words.{_≈_}
+use Rattle.clifford.specs.Words.{_≈_, by-test}
 
 abbrev pub quadruple : ℕ → ℕ → ℕ → ℕ → Clifford
 quadruple a b c d = record { a = a; b = b; c = c; d = d }
@@ -132,9 +132,6 @@ all3 f = all 3 (λ a. all 2 (λ b. all 4 (λ c. f a b c)))
 
 pub at3 : (f : ℕ → ℕ → ℕ → Bool) → T (all3 f) → (a b c : ℕ) → a < 3 → b < 2 → c < 4 → T (f a b c)
 at3 f t a b c ha hb hc = at 4 (λ c. f a b c) (at 2 (λ b. all 4 (λ c. f a b c)) (at 3 (λ a. all 2 (λ b. all 4 (λ c. f a b c))) t a ha) b hb) c hc
-
-by-test : (u v : List Letter) → T (sameTest (word u) (word v)) → u ≈ v
-by-test u v t = record { same = same-by (word u) (word v) t }
 
 abbrev rangedTest : Clifford → Bool
 rangedTest q = ltb (q .a) 3 && (ltb (q .b) 2 && (ltb (q .c) 4 && ltb (q .d) 8))

@@ -4,13 +4,14 @@ use mathlib.Core.List.{List, [], _∷_, _++_, append-assoc, append-nil}
 use Prim.Native.Nat.{ℕ, zero, suc, _+_, _*_, _/_, _%_}
 use native.Mathlib.Nat.{zero-add, suc-add, div-add-mod'}
 use native.Mathlib.Omega.{arith}
+use lib.Dec.{T}
 use Rattle.exact.specs.Meaning.Matrix.{Same}
 use Rattle.exact.specs.Meaning.Word.{Letter, I, H, S, X, W, T′, word}
 use Rattle.exact.specs.Meaning.Normal.{times}
 use Rattle.exact.specs.Meaning.Clifford.{cycle}
 use Rattle.exact.specs.Matrices.Same.{Same-refl, Same-sym, Same-trans}
 use Rattle.exact.specs.Matrices.Words.{Same-append, strike-word}
-use Rattle.exact.specs.Matrices.Test.{same-by}
+use Rattle.exact.specs.Matrices.Test.{sameTest, same-by}
 
 -- the same matrix
 infix 4 _≈_
@@ -72,29 +73,30 @@ cycle-add : (m n : ℕ) → cycle (m + n) ≡ cycle m ++ cycle n
 cycle-add zero n = ap cycle (zero-add n)
 cycle-add (suc m) n = ap cycle (suc-add m n) ∙ ap (λ u. H ∷ S ∷ S ∷ S ∷ W ∷ W ∷ W ∷ u) (cycle-add m n)
 
-by-test : (u v : List Letter) → Same (word u) (word v) → u ≈ v
-by-test u v h = record { same = h }
+-- by one computed test
+pub by-test : (u v : List Letter) → T (sameTest (word u) (word v)) → u ≈ v
+by-test u v t = record { same = same-by (word u) (word v) t }
 
 pub cycles : Powers cycle 3
-cycles = record { none = refl; add = cycle-add; round = by-test (cycle 3) [] (same-by (word (cycle 3)) (word []) tt) }
+cycles = record { none = refl; add = cycle-add; round = by-test (cycle 3) [] tt }
 
 pub exes : Powers (λ n. times n X) 2
-exes = record { none = refl; add = times-add X; round = by-test (times 2 X) [] (same-by (word (times 2 X)) (word []) tt) }
+exes = record { none = refl; add = times-add X; round = by-test (times 2 X) [] tt }
 
 pub esses : Powers (λ n. times n S) 4
-esses = record { none = refl; add = times-add S; round = by-test (times 4 S) [] (same-by (word (times 4 S)) (word []) tt) }
+esses = record { none = refl; add = times-add S; round = by-test (times 4 S) [] tt }
 
 pub doubleyous : Powers (λ n. times n W) 8
-doubleyous = record { none = refl; add = times-add W; round = by-test (times 8 W) [] (same-by (word (times 8 W)) (word []) tt) }
+doubleyous = record { none = refl; add = times-add W; round = by-test (times 8 W) [] tt }
 
 -- ---- W past every letter and word
 pass-letter : (l : Letter) → W ∷ l ∷ [] ≈ l ∷ W ∷ []
-pass-letter I = by-test (W ∷ I ∷ []) (I ∷ W ∷ []) (same-by (word (W ∷ I ∷ [])) (word (I ∷ W ∷ [])) tt)
-pass-letter H = by-test (W ∷ H ∷ []) (H ∷ W ∷ []) (same-by (word (W ∷ H ∷ [])) (word (H ∷ W ∷ [])) tt)
-pass-letter S = by-test (W ∷ S ∷ []) (S ∷ W ∷ []) (same-by (word (W ∷ S ∷ [])) (word (S ∷ W ∷ [])) tt)
-pass-letter X = by-test (W ∷ X ∷ []) (X ∷ W ∷ []) (same-by (word (W ∷ X ∷ [])) (word (X ∷ W ∷ [])) tt)
+pass-letter I = by-test (W ∷ I ∷ []) (I ∷ W ∷ []) tt
+pass-letter H = by-test (W ∷ H ∷ []) (H ∷ W ∷ []) tt
+pass-letter S = by-test (W ∷ S ∷ []) (S ∷ W ∷ []) tt
+pass-letter X = by-test (W ∷ X ∷ []) (X ∷ W ∷ []) tt
 pass-letter W = by-refl (W ∷ W ∷ [])
-pass-letter T′ = by-test (W ∷ T′ ∷ []) (T′ ∷ W ∷ []) (same-by (word (W ∷ T′ ∷ [])) (word (T′ ∷ W ∷ [])) tt)
+pass-letter T′ = by-test (W ∷ T′ ∷ []) (T′ ∷ W ∷ []) tt
 
 pass-one : (u : List Letter) → W ∷ u ≈ u ++ (W ∷ [])
 pass-one [] = by-refl (W ∷ [])
@@ -109,4 +111,4 @@ pub pass-S : (n : ℕ) → times n S ++ (T′ ∷ []) ≈ T′ ∷ times n S
 pass-S zero = by-refl (T′ ∷ [])
 pass-S (suc n) =
     under (S ∷ []) (pass-S n)
-    ⨾ before (by-test (S ∷ T′ ∷ []) (T′ ∷ S ∷ []) (same-by (word (S ∷ T′ ∷ [])) (word (T′ ∷ S ∷ [])) tt)) (times n S)
+    ⨾ before (by-test (S ∷ T′ ∷ []) (T′ ∷ S ∷ []) tt) (times n S)

@@ -149,24 +149,20 @@ codes-length false [] = refl
 codes-length true (s ∷ ss) = omega (arith, length-append (codes true ss) (syllableNumber (named s) ∷ []), codes-length true ss)
 codes-length false (s ∷ ss) = omega (arith, length-append (codes false ss) (syllableNumber (named s) ∷ []), codes-length false ss)
 
-syllable-short : (s : normal.Syllable) → length (syllable s) ≤ 3
-syllable-short normal.HT = omega arith
-syllable-short normal.SHT = omega arith
+-- a syllable's bytes are as many as its number
+longer : (b : Bool) (s : normal.Syllable) (ss : List normal.Syllable) → length (prefix b (s ∷ ss)) ≡ length (prefix b ss) + syllableNumber (named s)
+longer b s ss = omega (arith, prefix-length b s ss, ap length (named-word s), syllable-size (named s))
 
 prefix-few : (b : Bool) (ss : List normal.Syllable) → length (prefix b ss) ≤ 3 * size b ss
 prefix-few true [] = omega arith
 prefix-few false [] = omega arith
-prefix-few b (s ∷ ss) = omega (arith, prefix-length b s ss, syllable-short s, prefix-few b ss)
+prefix-few b (s ∷ ss) = omega (arith, longer b s ss, syllable-few (named s), prefix-few b ss)
 
 pub count-is : {items : List ℕ} {r : Reading} {st : State} → Holds items r st → r .count ≡ sizeOf st
 count-is {items} {r} {st} h = h .array .count ∙ codes-length (st .lead) (st .stack)
 
 pub bytes-most : {items : List ℕ} {r : Reading} {st : State} → Holds items r st → r .count ≤ 4096 → r .bytes ≤ 12288
 bytes-most {items} {r} {st} h l = omega (arith, h .bytes-is, prefix-few (st .lead) (st .stack), count-is h)
-
--- a syllable's bytes are as many as its number
-longer : (b : Bool) (s : normal.Syllable) (ss : List normal.Syllable) → length (prefix b (s ∷ ss)) ≡ length (prefix b ss) + syllableNumber (named s)
-longer b s ss = omega (arith, prefix-length b s ss, ap length (named-word s), syllable-size (named s))
 
 -- ---- adding a syllable, or none
 module _ (old : List ℕ) (r : Reading) (tail : Tail) (new : List ℕ) (n : Reading) (l : r .count < length old) (k : Fits tail) where

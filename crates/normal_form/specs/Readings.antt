@@ -11,7 +11,6 @@ use Rattle.exact.specs.Meaning.Word.{Letter, I, H, S, X, W, T′, word, tees}
 use Rattle.exact.specs.Meaning.Normal.{Syllable, HT, SHT, Front, nothing, onlyH, onlySH, Tail, Shape, times, frontWord, tailWord, orI, after, leading, spell, Fits, Normal}
 use Rattle.exact.specs.Meaning.Clifford.{cycle}
 use Rattle.exact.specs.Matrices.Same.{Same-of}
-use Rattle.exact.specs.Matrices.Test.{same-by}
 use Rattle.exact.specs.Unique.Normal.{spell-word}
 use Rattle.exact.specs.Unique.Tails.{tees-append}
 use Rattle.clifford.specs.declared.Axis.{Axis}
@@ -19,7 +18,7 @@ use Rattle.clifford.specs.declared.Axis.the-variants as Axis
 use Rattle.clifford.specs.declared.Clifford.{Clifford}
 use Rattle.clifford.specs.declared.Coset.{Coset}
 use Rattle.clifford.specs.Job6.{letters, axisWord, Ranged, Split}
-use Rattle.clifford.specs.Words.{_≈_, by-refl, by-eq, by-sym, _⨾_, under, before}
+use Rattle.clifford.specs.Words.{_≈_, by-test, by-refl, by-eq, by-sym, _⨾_, under, before}
 use Rattle.clifford.specs.Cliffords.{mulC, mul-right, mul-ranged, splitC, split-right, tconjC, tconj-ranged, tconj-same, few, cliffordI, cliffordX, cliffordS, cliffordW, cliffordH, cliffordHS, cliffordSHS, H-is, HS-is, SHS-is, H-ranged}
 
 -- the syllables with the last one first
@@ -94,9 +93,6 @@ run-ranged st [] h = h
 run-ranged st (l ∷ u) h = run-ranged (read l st) u (read-ranged l st h)
 
 -- ---- the matrix of the letters read
-by-test : (u v : List Letter) → Same (word u) (word v) → u ≈ v
-by-test u v h = record { same = h }
-
 pub times-Clifford : (x y : Clifford) → Ranged x → Ranged y → letters x ++ letters y ≈ letters (mulC x y)
 times-Clifford x y hx hy = by-sym (record { same = mul-right x y hx hy .same })
 
@@ -118,11 +114,11 @@ tee-same Axis.H r b ss h = by-eq (sym (append-assoc (prefix b ss) (H ∷ T′ �
 tee-same Axis.SH r b ss h = by-eq (sym (append-assoc (prefix b ss) (S ∷ H ∷ T′ ∷ []) (letters r)))
 tee-same Axis.I r b (HT ∷ ss) h =
     by-eq (append-assoc (prefix b ss) (H ∷ T′ ∷ []) (T′ ∷ letters r))
-    ⨾ under (prefix b ss) (gained cliffordHS r (H ∷ T′ ∷ T′ ∷ []) (H ∷ S ∷ []) HS-ranged h HS-is (by-test (H ∷ T′ ∷ T′ ∷ []) (H ∷ S ∷ []) (same-by (word (H ∷ T′ ∷ T′ ∷ [])) (word (H ∷ S ∷ [])) tt)))
+    ⨾ under (prefix b ss) (gained cliffordHS r (H ∷ T′ ∷ T′ ∷ []) (H ∷ S ∷ []) HS-ranged h HS-is (by-test (H ∷ T′ ∷ T′ ∷ []) (H ∷ S ∷ []) tt))
 tee-same Axis.I r b (SHT ∷ ss) h =
     by-eq (append-assoc (prefix b ss) (S ∷ H ∷ T′ ∷ []) (T′ ∷ letters r))
-    ⨾ under (prefix b ss) (gained cliffordSHS r (S ∷ H ∷ T′ ∷ T′ ∷ []) (S ∷ H ∷ S ∷ []) SHS-ranged h SHS-is (by-test (S ∷ H ∷ T′ ∷ T′ ∷ []) (S ∷ H ∷ S ∷ []) (same-by (word (S ∷ H ∷ T′ ∷ T′ ∷ [])) (word (S ∷ H ∷ S ∷ [])) tt)))
-tee-same Axis.I r true [] h = gained cliffordS r (T′ ∷ T′ ∷ []) (S ∷ []) S-ranged h (by-refl (S ∷ [])) (by-test (T′ ∷ T′ ∷ []) (S ∷ []) (same-by (word (T′ ∷ T′ ∷ [])) (word (S ∷ [])) tt))
+    ⨾ under (prefix b ss) (gained cliffordSHS r (S ∷ H ∷ T′ ∷ T′ ∷ []) (S ∷ H ∷ S ∷ []) SHS-ranged h SHS-is (by-test (S ∷ H ∷ T′ ∷ T′ ∷ []) (S ∷ H ∷ S ∷ []) tt))
+tee-same Axis.I r true [] h = gained cliffordS r (T′ ∷ T′ ∷ []) (S ∷ []) S-ranged h (by-refl (S ∷ [])) (by-test (T′ ∷ T′ ∷ []) (S ∷ []) tt)
 tee-same Axis.I r false [] h = by-refl (T′ ∷ letters r)
 
 -- a Clifford letter goes into the tail
@@ -132,7 +128,7 @@ tail-same st c u hq hc h =
     ⨾ under (prefix (st .lead) (st .stack)) (under (letters (st .q)) (by-sym h) ⨾ times-Clifford (st .q) c hq hc)
 
 pub read-same : (l : Letter) (st : State) → Ranged (st .q) → text st ++ (l ∷ []) ≈ text (read l st)
-read-same I st h = under (text st) (by-test (I ∷ []) [] (same-by (word (I ∷ [])) (word []) tt)) ⨾ by-eq (append-nil (text st))
+read-same I st h = under (text st) (by-test (I ∷ []) [] tt) ⨾ by-eq (append-nil (text st))
 read-same H st h = tail-same st cliffordH (H ∷ []) h H-ranged H-is
 read-same S st h = tail-same st cliffordS (S ∷ []) h S-ranged (by-refl (S ∷ []))
 read-same X st h = tail-same st cliffordX (X ∷ []) h (few 0 1 0 0 (omega arith) (omega arith) (omega arith) (omega arith)) (by-refl (X ∷ []))

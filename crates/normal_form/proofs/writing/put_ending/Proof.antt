@@ -2,7 +2,7 @@
 use mathlib.Core.Path.{_≡_, sym, _∙_, subst}
 use mathlib.Core.List.{List}
 use Prim.Native.Nat.{ℕ, _+_, _-_, _≤_}
-use native.Mathlib.Nat.{add-zero}
+use native.Mathlib.Nat.{add-zero, le-antisymm}
 use native.Mathlib.Omega.{arith}
 use denote.Ref.{now}
 use lib.ListN.{length, take, set, length-take}
@@ -77,10 +77,7 @@ returns c =
     let w = bytes (endWord (a .e)) in
     let n = c .before .before .size .result in
     subst (λ (v : List ℕ). Put (now (a .buf)) (a .at) v (l .buf) (a .at + n)) (take-all n w (omega (arith, whole (a .e), l .inv .0)))
-    (subst (λ (k : ℕ). Put (now (a .buf)) (a .at) (take k w) (l .buf) (a .at + k)) (the-end (l .j) n (l .inv .1) (c .loop-test .left)) (l .inv .3))
-  where
-    the-end : (j n : ℕ) → j ≤ n → n ≤ j → j ≡ n
-    the-end j n h k = omega arith
+    (subst (λ (k : ℕ). Put (now (a .buf)) (a .at) (take k w) (l .buf) (a .at + k)) (le-antisymm (l .inv .1) (c .loop-test .left)) (l .inv .3))
 
 pub put-ending-spec : {M : Type 1} → statement M
 put-ending-spec =

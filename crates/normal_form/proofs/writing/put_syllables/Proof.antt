@@ -1,6 +1,7 @@
 -- `normal_form::writing::put_syllables` meets its contract. Assumes nothing.
-use mathlib.Core.Path.{_≡_, sym, ap, subst}
+use mathlib.Core.Path.{sym, ap, subst}
 use Prim.Native.Nat.{ℕ, _+_, _-_, _≤_}
+use native.Mathlib.Nat.{le-antisymm}
 use native.Mathlib.Omega.{arith}
 use denote.Ref.{now}
 use lib.ListN.{length, take}
@@ -11,9 +12,6 @@ use Rattle.normal_form.specs.Put.{put-none, put-length, Put}
 use Rattle.normal_form.specs.declared.reading.Syllable.{Syllable}
 use Rattle.normal_form.proofs.writing.put_syllables.Statement.{statement}
 use Rattle.normal_form.proofs.writing.put_syllables.Tie as tie
-
-the-end : (j n : ℕ) → j ≤ n → n ≤ j → j ≡ n
-the-end j n h k = omega arith
 
 abbrev Inv-loop : tie.InvT-loop
 Inv-loop buf₀ items count at₀ k₀ buf at k = (k ≤ count) × Put buf₀ 0 (bytes (codesWord (take k items))) buf at
@@ -54,10 +52,10 @@ loop-again c =
     (omega arith, one-more (now (the-args .items)) (now (the-args .buf)) (the-loop .k) (the-args .count) (the-loop .buf) (the-loop .at) (the-loop-test .taken) (the-pre .0) (the-pre .1) (the-loop .inv .1) (the-of .result) (the-put-syllable .last .0) (the-put-syllable .result) (the-of .ensures) (the-put-syllable .ensures))
 
 same-length : tie.Need-same-length Inv-loop μ-loop
-same-length c = let l = c .before .loop in let a = c .before .before .before .before .args in put-length (now (a .buf)) 0 (bytes (codesWord (take (l .k) (now (a .items))))) (l .buf) (l .at) (l .inv .1) (subst (λ (k : ℕ). 0 + length (bytes (codesWord (take k (now (a .items))))) ≤ length (now (a .buf))) (sym (the-end (l .k) (a .count) (l .inv .0) (c .loop-test .left))) (omega (arith, bytes-length (codesWord (take (a .count) (now (a .items)))), c .before .before .before .before .pre .1)))
+same-length c = let l = c .before .loop in let a = c .before .before .before .before .args in put-length (now (a .buf)) 0 (bytes (codesWord (take (l .k) (now (a .items))))) (l .buf) (l .at) (l .inv .1) (subst (λ (k : ℕ). 0 + length (bytes (codesWord (take k (now (a .items))))) ≤ length (now (a .buf))) (sym (le-antisymm (l .inv .0) (c .loop-test .left))) (omega (arith, bytes-length (codesWord (take (a .count) (now (a .items)))), c .before .before .before .before .pre .1)))
 
 returns : tie.Need-returns Inv-loop μ-loop
-returns c = let l = c .before .loop in let a = c .before .before .before .before .args in subst (λ (k : ℕ). Put (now (a .buf)) 0 (bytes (codesWord (take k (now (a .items))))) (l .buf) (l .at)) (the-end (l .k) (a .count) (l .inv .0) (c .loop-test .left)) (l .inv .1)
+returns c = let l = c .before .loop in let a = c .before .before .before .before .args in subst (λ (k : ℕ). Put (now (a .buf)) 0 (bytes (codesWord (take k (now (a .items))))) (l .buf) (l .at)) (le-antisymm (l .inv .0) (c .loop-test .left)) (l .inv .1)
 
 pub put-syllables-spec : {M : Type 1} → statement M
 put-syllables-spec =

@@ -1,8 +1,8 @@
 -- `normal_form::writing::put_times` meets its contract. Assumes nothing.
-use mathlib.Core.Path.{_≡_, subst}
+use mathlib.Core.Path.{subst}
 use mathlib.Core.List.{List}
 use Prim.Native.Nat.{ℕ, _+_, _-_, _≤_}
-use native.Mathlib.Nat.{add-zero}
+use native.Mathlib.Nat.{add-zero, le-antisymm}
 use native.Mathlib.Omega.{arith}
 use denote.Ref.{now}
 use lib.ListN.{length, take, set, replicate, length-take, length-replicate, getD-replicate}
@@ -10,9 +10,6 @@ use lib.Seq.{take-all}
 use Rattle.normal_form.specs.Put.{put-none, put-length, put-next, Put}
 use Rattle.normal_form.proofs.writing.put_times.Statement.{statement}
 use Rattle.normal_form.proofs.writing.put_times.Tie as tie
-
-the-end : (j n : ℕ) → j ≤ n → n ≤ j → j ≡ n
-the-end j n h k = omega arith
 
 abbrev Inv-loop : tie.InvT-loop
 Inv-loop buf₀ at letter n j₀ buf j = (j ≤ n) × (at + n ≤ length buf₀) × Put buf₀ at (take j (replicate n letter)) buf (at + j)
@@ -45,7 +42,7 @@ same-length : tie.Need-same-length Inv-loop μ-loop
 same-length c = let l = c .before .loop in let a = c .before .before .args in put-length (now (a .buf)) (a .at) (take (l .j) (replicate (a .n) (a .letter))) (l .buf) (a .at + l .j) (l .inv .2) (omega (arith, length-take (l .j) (replicate (a .n) (a .letter)), length-replicate (a .n) (a .letter)))
 
 returns : tie.Need-returns Inv-loop μ-loop
-returns c = let l = c .before .loop in let a = c .before .before .args in let w = replicate (a .n) (a .letter) in let e = the-end (l .j) (a .n) (l .inv .0) (c .loop-test .left) in subst (λ (v : List ℕ). Put (now (a .buf)) (a .at) v (l .buf) (a .at + a .n)) (take-all (a .n) w (omega (arith, length-replicate (a .n) (a .letter)))) (subst (λ (k : ℕ). Put (now (a .buf)) (a .at) (take k w) (l .buf) (a .at + k)) e (l .inv .2))
+returns c = let l = c .before .loop in let a = c .before .before .args in let w = replicate (a .n) (a .letter) in let e = le-antisymm (l .inv .0) (c .loop-test .left) in subst (λ (v : List ℕ). Put (now (a .buf)) (a .at) v (l .buf) (a .at + a .n)) (take-all (a .n) w (omega (arith, length-replicate (a .n) (a .letter)))) (subst (λ (k : ℕ). Put (now (a .buf)) (a .at) (take k w) (l .buf) (a .at + k)) e (l .inv .2))
 
 pub put-times-spec : {M : Type 1} → statement M
 put-times-spec =
