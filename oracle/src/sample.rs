@@ -137,6 +137,25 @@ fn words(s: &mut Sample) {
     }
 }
 
+/// Every entry of the reader's table that a word can reach: each Clifford behind an even number of letters, then each
+/// letter alone, each two letters, and behind each syllable those that bring a T to it.
+fn pairs(s: &mut Sample) {
+    for tail in inputs::tails().iter().step_by(8) {
+        for front in [b"".as_slice(), b"T", b"HT", b"SHT"] {
+            let even = vec![b'W'; (front.len() + tail.len()) % 2];
+            let start = [front, tail.as_slice(), &even].concat();
+            for first in JOB_3 {
+                let seconds = JOB_3.iter().map(|second| vec![*first, *second]);
+                for last in seconds.chain([vec![*first]]) {
+                    if front.is_empty() || last.contains(&b'T') {
+                        s.normalise(&[start.as_slice(), &last].concat(), 0);
+                    }
+                }
+            }
+        }
+    }
+}
+
 /// Every k, n and tail, raised and damaged triples, and each limit.
 fn all_triples(s: &mut Sample) {
     let big = 1i64 << 30;
@@ -202,6 +221,7 @@ fn all_cliffords(s: &mut Sample) {
 pub fn write(folder: &str) -> ExitCode {
     let mut s = Sample::default();
     words(&mut s);
+    pairs(&mut s);
     all_triples(&mut s);
     all_cliffords(&mut s);
     if s.report.unexplained > 0 {
