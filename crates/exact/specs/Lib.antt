@@ -6,3 +6,4 @@ pub mod Matrices
 pub mod Cases
 pub mod Rotation
 pub mod Unique
+pub mod Outcomes

@@ -7,3 +7,7 @@ pub mod Normal
 pub mod Clifford
 pub mod Limits
 pub mod Endings
+pub mod Record
+pub mod Outcome
+pub mod Lent
+pub mod Refusals

@@ -1,0 +1,35 @@
+-- Writing into lent memory, as document 01 has it: the answer's bytes from the start, those beyond as before; a refusal writes nothing, and 7 is given
+-- where the answer has more bytes than were lent.
+use mathlib.Core.Path.{_≡_}
+use mathlib.Core.List.{List, _++_}
+use Prim.Native.Nat.{ℕ, _<_}
+use lib.ListN.{length, drop}
+use Rattle.exact.specs.Meaning.Limits.{Room}
+use Rattle.exact.specs.Meaning.Outcome.{Refusal, plain}
+
+-- what is handed back, and the lent bytes at the end
+pub record Lent (H : Type 0) : Type 0 where
+  pub handed : H
+  pub buffer : List ℕ
+
+abbrev pub over : List ℕ → List ℕ → List ℕ
+over text old = text ++ drop (length text) old
+
+abbrev pub untouched : {H : Type 0} → (ℕ → ℕ → H) → List ℕ → ℕ → ℕ → Lent H
+untouched refused old n p = record { handed = refused n p; buffer = old }
+
+-- an answer v is written as its text, and `counts` is handed back with it
+module _ {A H : Type 0} (text : A → List ℕ) (counts : A → H) (Answer : A → Type 0) (old : List ℕ) where
+  pub record Writes (r : Lent H) : Type 0 where
+    pub v : A
+    pub answer : Answer v
+    pub is : r ≡ record { handed = counts v; buffer = over (text v) old }
+
+module _ {A : Type 0} (text : A → List ℕ) (Answer : A → Type 0) (old : List ℕ) where
+  pub record TooMany : Type 0 where
+    pub v : A
+    pub answer : Answer v
+    pub more : length old < length (text v)
+
+  abbrev pub room : Refusal
+  room = plain Room TooMany

@@ -1,0 +1,64 @@
+-- Document 01's refusals 1 to 6 and 8 as values: each a number with its condition, over bytes and whole numbers. 7 stands in `Lent`.
+use mathlib.Core.Path.{_≡_}
+use mathlib.Core.Bool.{Bool}
+use mathlib.Core.List.{List}
+use Prim.Native.Nat.{ℕ, _<_}
+use lib.IntN.{ℤ, pos, natAbs}
+use lib.ListN.{length}
+use lib.Signed.{_≤ℤ_}
+use Rattle.exact.specs.Meaning.Number.{Ω, Sized}
+use Rattle.exact.specs.Meaning.Word.{Letter, bytes, FirstOutside}
+use Rattle.exact.specs.Meaning.Triple.{Triple, Unitary}
+use Rattle.exact.specs.Meaning.Endings.{DeepAt}
+use Rattle.exact.specs.Meaning.Limits as Limits
+use Rattle.exact.specs.Meaning.Limits.{longest, deepest, largest}
+use Rattle.exact.specs.Meaning.Record.{Numbers, RightRecord}
+use Rattle.exact.specs.Meaning.Outcome.{Refusal, plain}
+
+-- ---- words
+-- 1: over 4,096 letters
+abbrev pub long : List ℕ → Refusal
+long w = plain Limits.Long (longest < length w)
+
+-- 2: a byte outside the alphabet; the place is the first such
+abbrev pub letter : (Letter → Bool) → List ℕ → Refusal
+letter alphabet w = record { number = Limits.Letter; At = FirstOutside alphabet w }
+
+-- 6: an ending with reduced exponent over 60; the place is the rightmost start of such an ending
+pub record DeepIn (w : List ℕ) (p : ℕ) : Type 0 where
+  pub letters : List Letter
+  pub spelled : bytes letters ≡ w
+  pub deep-at : DeepAt letters p
+
+abbrev pub deep : List ℕ → Refusal
+deep w = record { number = Limits.Deep; At = DeepIn w }
+
+-- ---- triples
+-- the numbers as they are handed in; k below 0 is refused first
+abbrev pub handedIn : ℤ → ℕ → Ω → Ω → Triple
+handedIn k n z w = record { k = natAbs k; n = n; z = z; w = w }
+
+-- 3: k below 0 or over 60
+pub record InExponents (k : ℤ) : Type 0 where
+  pub low : pos 0 ≤ℤ k
+  pub high : k ≤ℤ pos deepest
+
+abbrev pub exponent : ℤ → Refusal
+exponent k = plain Limits.Exponent (InExponents k → ⊥)
+
+-- 4: a coefficient below -2^30 or over 2^30
+pub record InCoefficients (z w : Ω) : Type 0 where
+  pub z-in : Sized largest z
+  pub w-in : Sized largest w
+
+abbrev pub coefficient : Ω → Ω → Refusal
+coefficient z w = plain Limits.Coefficient (InCoefficients z w → ⊥)
+
+-- 5: not unitary, in which n has no part
+abbrev pub unitary : ℤ → Ω → Ω → Refusal
+unitary k z w = plain Limits.Unitary (Unitary (handedIn k 0 z w) → ⊥)
+
+-- ---- the bench record
+-- 8: no numbers have these bytes as their record
+abbrev pub malformed : List ℕ → Refusal
+malformed s = plain Limits.Record ((x : Numbers) → RightRecord s x → ⊥)

@@ -1,0 +1,88 @@
+-- Ladders of refusals: two allowed outcomes are equal; what follows where none of the refusals holds; and outcomes made of other outcomes.
+-- Assumes nothing.
+use mathlib.Core.Path.{_≡_, refl, sym, _∙_, ap, ap₂, subst}
+use Prim.Native.Nat.{ℕ}
+use Rattle.exact.specs.Meaning.Outcome.{Refusal, Refusals, none, _then_, Rung, Outcome, HandsOn}
+
+-- ---- two allowed outcomes are equal
+abbrev pub One : Refusal → Type 0
+One f = (p q : ℕ) → f .At p → f .At q → p ≡ q
+
+-- each refusal has at most one place
+abbrev pub OnePlace : Refusals → Type 0
+OnePlace none = Unit {0}
+OnePlace (f then fs) = One f × OnePlace fs
+
+one-rung : {R : Type 0} {r s : R} {Holds : ℕ → Type 0} (gives : ℕ → R) {X Y : Type 0} → ((p q : ℕ) → Holds p → Holds q → p ≡ q) → (X → Y → r ≡ s)
+    → Rung Holds (λ p. r ≡ gives p) X → Rung Holds (λ p. s ≡ gives p) Y → r ≡ s
+one-rung gives o rest (Rung.given p h e) (Rung.given q k g) = e ∙ ap gives (o p q h k) ∙ sym g
+one-rung gives o rest (Rung.given p h e) (Rung.passed n y) = absurd (n p h)
+one-rung gives o rest (Rung.passed n x) (Rung.given q k g) = absurd (n q k)
+one-rung gives o rest (Rung.passed n x) (Rung.passed m y) = rest x y
+
+-- the only one of its kind
+abbrev pub Only : {R : Type 0} → (R → Type 0) → Type 0
+Only {R} P = (r s : R) → P r → P s → r ≡ s
+
+module _ {R : Type 0} (refused : ℕ → ℕ → R) (Answer : R → Type 0) (one : Only Answer) where
+  pub one-outcome : (fs : Refusals) → OnePlace fs → Only (Outcome refused Answer fs)
+  one-outcome none o r s x y = one r s x y
+  one-outcome (f then fs) o r s x y = one-rung (refused (f .number)) (o .0) (one-outcome fs (o .1) r s) x y
+
+pub one-handed : {R S : Type 0} (Job : R → Type 0) (f : R → S) → Only Job → Only (HandsOn Job f)
+one-handed Job f o r s x y = x .is ∙ ap f (o (x .job) (y .job) (x .outcome) (y .outcome)) ∙ sym (y .is)
+
+-- ---- where none of the refusals holds
+abbrev pub Passed : Refusals → Type 0
+Passed none = Unit {0}
+Passed (f then fs) = ((p : ℕ) → f .At p → ⊥) × Passed fs
+
+-- fs, and after them gs
+infixr 5 _also_
+abbrev pub _also_ : Refusals → Refusals → Refusals
+none also gs = gs
+(f then fs) also gs = f then (fs also gs)
+
+module _ {R : Type 0} (refused : ℕ → ℕ → R) (Answer : R → Type 0) where
+  -- the answer is given, and nothing else
+  pub answered : (fs : Refusals) → Passed fs → (r : R) → Outcome refused Answer fs r → Answer r
+  answered none h r x = x
+  answered (f then fs) h r (Rung.given p k e) = absurd (h .0 p k)
+  answered (f then fs) h r (Rung.passed n x) = answered fs (h .1) r x
+
+  pub pass : (fs gs : Refusals) → Passed fs → (r : R) → Outcome refused Answer gs r → Outcome refused Answer (fs also gs) r
+  pass none gs h r x = x
+  pass (f then fs) gs h r x = Rung.passed (h .0) (pass fs gs (h .1) r x)
+
+  -- what holds of every refusal and of every answer
+  pub always : (P : R → Type 0) → ((n p : ℕ) → P (refused n p)) → ((r : R) → Answer r → P r) → (fs : Refusals) (r : R) → Outcome refused Answer fs r → P r
+  always P at-refused at-answer none r x = at-answer r x
+  always P at-refused at-answer (f then fs) r (Rung.given p k e) = subst P (sym e) (at-refused (f .number) p)
+  always P at-refused at-answer (f then fs) r (Rung.passed n x) = always P at-refused at-answer fs r x
+
+-- ---- an outcome made of another, each refusal of the one being that of the other
+module _ {R S : Type 0} (refused : ℕ → ℕ → R) (Answer : R → Type 0) (refused′ : ℕ → ℕ → S) (Answer′ : S → Type 0) (f : R → S) (same : (n p : ℕ) → f (refused n p) ≡ refused′ n p) where
+  pub carry : (fs gs hs : Refusals) → ((r : R) → Passed fs → Outcome refused Answer gs r → Outcome refused′ Answer′ hs (f r)) → (r : R) → Outcome refused Answer (fs also gs) r → Outcome refused′ Answer′ (fs also hs) (f r)
+  carry none gs hs rest r x = rest r tt x
+  carry (g then fs) gs hs rest r (Rung.given p h e) = Rung.given p h (ap f e ∙ same (g .number) p)
+  carry (g then fs) gs hs rest r (Rung.passed n x) = Rung.passed n (carry fs gs hs (λ s h y. rest s (n, h) y) r x)
+
+-- ---- a check: it answers a number alone, 0 where none of the refusals holds
+abbrev pub Checks : Refusals → ℕ → Type 0
+Checks fs r = Outcome (λ n p. n) (λ r. r ≡ 0) fs r
+
+-- no refusal has the number 0, and none names a place
+abbrev pub Placeless : Refusals → Type 0
+Placeless none = Unit {0}
+Placeless (f then fs) = ((f .number ≡ 0 → ⊥) × ((p : ℕ) → f .At p → p ≡ 0)) × Placeless fs
+
+pub check-passed : (fs : Refusals) → Placeless fs → (r : ℕ) → Checks fs r → r ≡ 0 → Passed fs
+check-passed none o r x e = tt
+check-passed (f then fs) o r (Rung.given p h g) e = absurd (o .0 .0 (sym g ∙ e))
+check-passed (f then fs) o r (Rung.passed n x) e = (n, check-passed fs (o .1) r x e)
+
+module _ {R : Type 0} (refused : ℕ → ℕ → R) (Answer : R → Type 0) where
+  pub check-refused : (fs gs : Refusals) → Placeless fs → (r : ℕ) → Checks fs r → (r ≡ 0 → ⊥) → Outcome refused Answer (fs also gs) (refused r 0)
+  check-refused none gs o r x n = absurd (n x)
+  check-refused (f then fs) gs o r (Rung.given p h e) n = Rung.given p h (ap₂ refused e (sym (o .0 .1 p h)))
+  check-refused (f then fs) gs o r (Rung.passed m x) n = Rung.passed m (check-refused fs gs (o .1) r x n)
