@@ -1,11 +1,8 @@
--- Writing into lent memory, as document 01 has it: the answer's bytes from the start, those beyond as before; a refusal writes nothing, and 7 is given
--- where the answer has more bytes than were lent.
+-- Writing into lent memory, as document 01 has it: the answer's bytes from the start, those beyond as before; a refusal writes nothing.
 use mathlib.Core.Path.{_≡_}
 use mathlib.Core.List.{List, _++_}
-use Prim.Native.Nat.{ℕ, _<_}
+use Prim.Native.Nat.{ℕ}
 use lib.ListN.{length, drop}
-use Rattle.exact.specs.Meaning.Limits.{Room}
-use Rattle.exact.specs.Meaning.Outcome.{Refusal, plain}
 
 -- what is handed back, and the lent bytes at the end
 pub record Lent (H : Type 0) : Type 0 where
@@ -24,12 +21,3 @@ module _ {A H : Type 0} (text : A → List ℕ) (counts : A → H) (Answer : A �
     pub v : A
     pub answer : Answer v
     pub is : r ≡ record { handed = counts v; buffer = over (text v) old }
-
-module _ {A : Type 0} (text : A → List ℕ) (Answer : A → Type 0) (old : List ℕ) where
-  pub record TooMany : Type 0 where
-    pub v : A
-    pub answer : Answer v
-    pub more : length old < length (text v)
-
-  abbrev pub room : Refusal
-  room = plain Room TooMany

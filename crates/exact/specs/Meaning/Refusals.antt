@@ -1,5 +1,4 @@
--- Document 01's refusals 1 to 6 and 8 as values: each a number with its condition, over bytes and whole numbers. 7 stands in `Lent`.
-use mathlib.Core.Path.{_≡_}
+-- Document 01's refusals as values: each a number with its condition, over bytes and whole numbers.
 use mathlib.Core.Bool.{Bool}
 use mathlib.Core.List.{List}
 use Prim.Native.Nat.{ℕ, _<_}
@@ -7,7 +6,7 @@ use lib.IntN.{ℤ, pos, natAbs}
 use lib.ListN.{length}
 use lib.Signed.{_≤ℤ_}
 use Rattle.exact.specs.Meaning.Number.{Ω, Sized}
-use Rattle.exact.specs.Meaning.Word.{Letter, bytes, FirstOutside}
+use Rattle.exact.specs.Meaning.Word.{Letter, FirstOutside, Spelled}
 use Rattle.exact.specs.Meaning.Triple.{Triple, Unitary}
 use Rattle.exact.specs.Meaning.Endings.{DeepAt}
 use Rattle.exact.specs.Meaning.Limits as Limits
@@ -25,13 +24,8 @@ abbrev pub letter : (Letter → Bool) → List ℕ → Refusal
 letter alphabet w = record { number = Limits.Letter; At = FirstOutside alphabet w }
 
 -- 6: an ending with reduced exponent over 60; the place is the rightmost start of such an ending
-pub record DeepIn (w : List ℕ) (p : ℕ) : Type 0 where
-  pub letters : List Letter
-  pub spelled : bytes letters ≡ w
-  pub deep-at : DeepAt letters p
-
 abbrev pub deep : List ℕ → Refusal
-deep w = record { number = Limits.Deep; At = DeepIn w }
+deep w = record { number = Limits.Deep; At = Spelled DeepAt w }
 
 -- ---- triples
 -- the numbers as they are handed in; k below 0 is refused first
@@ -57,6 +51,17 @@ coefficient z w = plain Limits.Coefficient (InCoefficients z w → ⊥)
 -- 5: not unitary, in which n has no part
 abbrev pub unitary : ℤ → Ω → Ω → Refusal
 unitary k z w = plain Limits.Unitary (Unitary (handedIn k 0 z w) → ⊥)
+
+-- ---- lent memory
+-- 7: an answer's text has more bytes than were lent
+module _ {A : Type 0} (text : A → List ℕ) (Answer : A → Type 0) (old : List ℕ) where
+  pub record TooMany : Type 0 where
+    pub v : A
+    pub answer : Answer v
+    pub more : length old < length (text v)
+
+  abbrev pub room : Refusal
+  room = plain Limits.Room TooMany
 
 -- ---- the bench record
 -- 8: no numbers have these bytes as their record

@@ -98,3 +98,9 @@ pub record FirstOutside (alphabet : Letter → Bool) (bs : List ℕ) (place : �
 pub record Spells (alphabet : Letter → Bool) (bs : List ℕ) (u : List Letter) : Type 0 where
   pub spelled : bytes u ≡ bs
   pub inside : (i : ℕ) → i < length bs → In alphabet (getD bs i 0)
+
+-- what holds of the letters that the bytes spell
+pub record Spelled {A : Type 0} (Of : List Letter → A → Type 0) (bs : List ℕ) (a : A) : Type 0 where
+  pub letters : List Letter
+  pub spelled : bytes letters ≡ bs
+  pub holds : Of letters a

@@ -1,16 +1,15 @@
 -- Each refusal has at most one place, and an answer that is the only one is written in one way. Assumes nothing.
-use mathlib.Core.Path.{_≡_, refl, sym, _∙_, ap, subst}
+use mathlib.Core.Path.{_≡_, sym, _∙_, ap, subst}
 use mathlib.Core.Bool.{Bool}
 use mathlib.Core.List.{List}
 use Prim.Native.Nat.{ℕ, _<_}
 use native.Mathlib.Omega.{arith}
-use Rattle.exact.specs.Meaning.Word.{Letter, FirstOutside}
+use Rattle.exact.specs.Meaning.Word.{Letter, FirstOutside, Spelled}
 use Rattle.exact.specs.Meaning.Endings.{Shallow, Deep, DeepAt}
-use Rattle.exact.specs.Meaning.Lent.{Lent, over, Writes}
-use Rattle.exact.specs.Meaning.Refusals.{DeepIn, letter, deep}
+use Rattle.exact.specs.Meaning.Lent.{over, Writes}
 use Rattle.exact.specs.Cases.Letters.{bytes-inj}
 use Rattle.exact.specs.Matrices.Least.{least-unique}
-use Rattle.exact.specs.Outcomes.Ladder.{Only, One}
+use Rattle.exact.specs.Outcomes.Ladder.{Only}
 
 pub one-plain : {C : Type 0} (p q : ℕ) → C × (p ≡ 0) → C × (q ≡ 0) → p ≡ q
 one-plain p q h k = h .1 ∙ sym (k .1)
@@ -25,14 +24,19 @@ one-letter {alphabet} {w} p q f g = omega (arith, below f g, below g f)
 pub not-both : {u : List Letter} → Shallow u → Deep u → ⊥
 not-both s d = omega (arith, s .few, d .many, least-unique (s .least) (d .least))
 
-pub one-deep : {w : List ℕ} (p q : ℕ) → DeepIn w p → DeepIn w q → p ≡ q
-one-deep p q f g = at (f .deep-at) (subst (λ (u : List Letter). DeepAt u q) (bytes-inj (g .letters) (f .letters) (g .spelled ∙ sym (f .spelled))) (g .deep-at))
-  where
-    below : {u : List Letter} {i j : ℕ} → DeepAt u i → DeepAt u j → i < j → ⊥
-    below {u} {i} {j} a b l = not-both (a .after j l (omega (arith, b .there))) (b .deep)
+-- ---- of the letters that the bytes spell
+pub one-spelled : {A : Type 0} (Of : List Letter → A → Type 0) → ((u : List Letter) → Only (Of u)) → (w : List ℕ) → Only (Spelled Of w)
+one-spelled Of one w a b x y =
+    one (x .letters) a b (x .holds) (subst (λ (u : List Letter). Of u b) (bytes-inj (y .letters) (x .letters) (y .spelled ∙ sym (x .spelled))) (y .holds))
 
-    at : {u : List Letter} → DeepAt u p → DeepAt u q → p ≡ q
-    at a b = omega (arith, below a b, below b a)
+one-end : (u : List Letter) → Only (DeepAt u)
+one-end u p q a b = omega (arith, below a b, below b a)
+  where
+    below : {i j : ℕ} → DeepAt u i → DeepAt u j → i < j → ⊥
+    below {i} {j} a b l = not-both (a .after j l (omega (arith, b .there))) (b .deep)
+
+pub one-deep : {w : List ℕ} → Only (Spelled DeepAt w)
+one-deep {w} = one-spelled DeepAt one-end w
 
 -- ---- an answer in lent memory
 module _ {A H : Type 0} (text : A → List ℕ) (counts : A → H) (Answer : A → Type 0) (old : List ℕ) (one : Only Answer) where
