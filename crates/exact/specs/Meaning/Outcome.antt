@@ -16,6 +16,11 @@ pub data Refusals : Type 1 where
   _then_ : Refusal → Refusals → Refusals
 
 infixr 5 _then_
+-- fs, and after them gs
+infixr 4 _also_
+abbrev pub _also_ : Refusals → Refusals → Refusals
+none also gs = gs
+(f then fs) also gs = f then (fs also gs)
 
 -- given at a place where it holds, or passed because it holds nowhere
 pub data Rung (Holds Gives : ℕ → Type 0) (Rest : Type 0) : Type 0 where

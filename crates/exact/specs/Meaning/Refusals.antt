@@ -12,7 +12,7 @@ use Rattle.exact.specs.Meaning.Endings.{DeepAt}
 use Rattle.exact.specs.Meaning.Limits as Limits
 use Rattle.exact.specs.Meaning.Limits.{longest, deepest, largest}
 use Rattle.exact.specs.Meaning.Record.{Numbers, RightRecord}
-use Rattle.exact.specs.Meaning.Outcome.{Refusal, plain}
+use Rattle.exact.specs.Meaning.Outcome.{Refusal, Refusals, none, _then_, plain}
 
 -- ---- words
 -- 1: over 4,096 letters
@@ -51,6 +51,10 @@ coefficient z w = plain Limits.Coefficient (InCoefficients z w → ⊥)
 -- 5: not unitary, in which n has no part
 abbrev pub unitary : ℤ → Ω → Ω → Refusal
 unitary k z w = plain Limits.Unitary (Unitary (handedIn k 0 z w) → ⊥)
+
+-- those three in their order
+abbrev pub checks : ℤ → Ω → Ω → Refusals
+checks k z w = exponent k then coefficient z w then unitary k z w then none
 
 -- ---- lent memory
 -- 7: an answer's text has more bytes than were lent

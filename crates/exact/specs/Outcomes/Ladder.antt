@@ -1,50 +1,43 @@
 -- Ladders of refusals: two allowed outcomes are equal; what follows where none of the refusals holds; and outcomes made of other outcomes.
 -- Assumes nothing.
-use mathlib.Core.Path.{_≡_, refl, sym, _∙_, ap, ap₂, subst}
+use mathlib.Core.Path.{_≡_, sym, _∙_, ap, ap₂, subst}
 use Prim.Native.Nat.{ℕ}
-use Rattle.exact.specs.Meaning.Outcome.{Refusal, Refusals, none, _then_, Rung, Outcome, HandsOn}
+use Rattle.exact.specs.Meaning.Outcome.{Refusal, Refusals, none, _then_, _also_, Rung, Outcome, HandsOn}
 
--- ---- two allowed outcomes are equal
-abbrev pub One : Refusal → Type 0
-One f = (p q : ℕ) → f .At p → f .At q → p ≡ q
-
--- each refusal has at most one place
-abbrev pub OnePlace : Refusals → Type 0
-OnePlace none = Unit {0}
-OnePlace (f then fs) = One f × OnePlace fs
-
-one-rung : {R : Type 0} {r s : R} {Holds : ℕ → Type 0} (gives : ℕ → R) {X Y : Type 0} → ((p q : ℕ) → Holds p → Holds q → p ≡ q) → (X → Y → r ≡ s)
-    → Rung Holds (λ p. r ≡ gives p) X → Rung Holds (λ p. s ≡ gives p) Y → r ≡ s
-one-rung gives o rest (Rung.given p h e) (Rung.given q k g) = e ∙ ap gives (o p q h k) ∙ sym g
-one-rung gives o rest (Rung.given p h e) (Rung.passed n y) = absurd (n p h)
-one-rung gives o rest (Rung.passed n x) (Rung.given q k g) = absurd (n q k)
-one-rung gives o rest (Rung.passed n x) (Rung.passed m y) = rest x y
-
--- the only one of its kind
-abbrev pub Only : {R : Type 0} → (R → Type 0) → Type 0
-Only {R} P = (r s : R) → P r → P s → r ≡ s
-
-module _ {R : Type 0} (refused : ℕ → ℕ → R) (Answer : R → Type 0) (one : Only Answer) where
-  pub one-outcome : (fs : Refusals) → OnePlace fs → Only (Outcome refused Answer fs)
-  one-outcome none o r s x y = one r s x y
-  one-outcome (f then fs) o r s x y = one-rung (refused (f .number)) (o .0) (one-outcome fs (o .1) r s) x y
-
-pub one-handed : {R S : Type 0} (Job : R → Type 0) (f : R → S) → Only Job → Only (HandsOn Job f)
-one-handed Job f o r s x y = x .is ∙ ap f (o (x .job) (y .job) (x .outcome) (y .outcome)) ∙ sym (y .is)
-
--- ---- where none of the refusals holds
+-- none of the refusals holds anywhere
 abbrev pub Passed : Refusals → Type 0
 Passed none = Unit {0}
 Passed (f then fs) = ((p : ℕ) → f .At p → ⊥) × Passed fs
 
--- fs, and after them gs
-infixr 5 _also_
-abbrev pub _also_ : Refusals → Refusals → Refusals
-none also gs = gs
-(f then fs) also gs = f then (fs also gs)
+-- ---- two allowed outcomes are equal
+-- each refusal has at most one place
+abbrev pub OnePlace : Refusals → Type 0
+OnePlace none = Unit {0}
+OnePlace (f then fs) = ((p q : ℕ) → f .At p → f .At q → p ≡ q) × OnePlace fs
+
+-- at most one fits
+abbrev pub Only : {R : Type 0} → (R → Type 0) → Type 0
+Only {R} P = (r s : R) → P r → P s → r ≡ s
+
+module _ {R : Type 0} {r s : R} {Holds : ℕ → Type 0} (gives : ℕ → R) {X Y : Type 0} where
+  one-rung : ((p q : ℕ) → Holds p → Holds q → p ≡ q) → (((p : ℕ) → Holds p → ⊥) → X → Y → r ≡ s)
+      → Rung Holds (λ p. r ≡ gives p) X → Rung Holds (λ p. s ≡ gives p) Y → r ≡ s
+  one-rung o rest (Rung.given p h e) (Rung.given q k g) = e ∙ ap gives (o p q h k) ∙ sym g
+  one-rung o rest (Rung.given p h e) (Rung.passed n y) = absurd (n p h)
+  one-rung o rest (Rung.passed n x) (Rung.given q k g) = absurd (n q k)
+  one-rung o rest (Rung.passed n x) (Rung.passed m y) = rest n x y
 
 module _ {R : Type 0} (refused : ℕ → ℕ → R) (Answer : R → Type 0) where
-  -- the answer is given, and nothing else
+  pub one-outcome : (fs : Refusals) → OnePlace fs → (Passed fs → Only Answer) → Only (Outcome refused Answer fs)
+  one-outcome none o one r s x y = one tt r s x y
+  one-outcome (f then fs) o one r s x y = one-rung (refused (f .number)) (o .0) (λ n. one-outcome fs (o .1) (λ h. one (n, h)) r s) x y
+
+pub one-handed : {R S : Type 0} (Job : R → Type 0) (f : R → S) → Only Job → Only (HandsOn Job f)
+one-handed Job f o r s x y = x .is ∙ ap f (o (x .job) (y .job) (x .outcome) (y .outcome)) ∙ sym (y .is)
+
+-- ---- from an outcome, and to one
+module _ {R : Type 0} (refused : ℕ → ℕ → R) (Answer : R → Type 0) where
+  -- where none holds the answer is given
   pub answered : (fs : Refusals) → Passed fs → (r : R) → Outcome refused Answer fs r → Answer r
   answered none h r x = x
   answered (f then fs) h r (Rung.given p k e) = absurd (h .0 p k)
@@ -55,19 +48,22 @@ module _ {R : Type 0} (refused : ℕ → ℕ → R) (Answer : R → Type 0) wher
   pass (f then fs) gs h r x = Rung.passed (h .0) (pass fs gs (h .1) r x)
 
   -- what holds of every refusal and of every answer
-  pub always : (P : R → Type 0) → ((n p : ℕ) → P (refused n p)) → ((r : R) → Answer r → P r) → (fs : Refusals) (r : R) → Outcome refused Answer fs r → P r
-  always P at-refused at-answer none r x = at-answer r x
-  always P at-refused at-answer (f then fs) r (Rung.given p k e) = subst P (sym e) (at-refused (f .number) p)
-  always P at-refused at-answer (f then fs) r (Rung.passed n x) = always P at-refused at-answer fs r x
+  module _ (P : R → Type 0) (at-refused : (n p : ℕ) → P (refused n p)) (at-answer : (r : R) → Answer r → P r) where
+    pub always : (fs : Refusals) (r : R) → Outcome refused Answer fs r → P r
+    always none r x = at-answer r x
+    always (f then fs) r (Rung.given p k e) = subst P (sym e) (at-refused (f .number) p)
+    always (f then fs) r (Rung.passed n x) = always fs r x
 
--- ---- an outcome made of another, each refusal of the one being that of the other
-module _ {R S : Type 0} (refused : ℕ → ℕ → R) (Answer : R → Type 0) (refused′ : ℕ → ℕ → S) (Answer′ : S → Type 0) (f : R → S) (same : (n p : ℕ) → f (refused n p) ≡ refused′ n p) where
-  pub carry : (fs gs hs : Refusals) → ((r : R) → Passed fs → Outcome refused Answer gs r → Outcome refused′ Answer′ hs (f r)) → (r : R) → Outcome refused Answer (fs also gs) r → Outcome refused′ Answer′ (fs also hs) (f r)
-  carry none gs hs rest r x = rest r tt x
-  carry (g then fs) gs hs rest r (Rung.given p h e) = Rung.given p h (ap f e ∙ same (g .number) p)
-  carry (g then fs) gs hs rest r (Rung.passed n x) = Rung.passed n (carry fs gs hs (λ s h y. rest s (n, h) y) r x)
+-- an outcome made of another, whose refusals become those of the one
+module _ {R S : Type 0} (refused : ℕ → ℕ → R) (Answer : R → Type 0) (refused′ : ℕ → ℕ → S) (Answer′ : S → Type 0) (f : R → S) where
+  pub carry : ((n p : ℕ) → f (refused n p) ≡ refused′ n p) → (fs gs hs : Refusals)
+      → ((r : R) → Passed fs → Outcome refused Answer gs r → Outcome refused′ Answer′ hs (f r))
+      → (r : R) → Outcome refused Answer (fs also gs) r → Outcome refused′ Answer′ (fs also hs) (f r)
+  carry same none gs hs rest r x = rest r tt x
+  carry same (g then fs) gs hs rest r (Rung.given p h e) = Rung.given p h (ap f e ∙ same (g .number) p)
+  carry same (g then fs) gs hs rest r (Rung.passed n x) = Rung.passed n (carry same fs gs hs (λ s h y. rest s (n, h) y) r x)
 
--- ---- a check: it answers a number alone, 0 where none of the refusals holds
+-- ---- a check: a number alone, 0 where none of the refusals holds
 abbrev pub Checks : Refusals → ℕ → Type 0
 Checks fs r = Outcome (λ n p. n) (λ r. r ≡ 0) fs r
 
