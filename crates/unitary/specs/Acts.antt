@@ -81,7 +81,7 @@ pub lower-less : (t r : DOmegaUnitary) → Both (λ k. triple r ≡ lowered k (t
 lower-less t r b = omega (arith, b .is, ap (λ u. u .k) (b .holds))
 
 -- where no further division is made, the triple is reduced
-pub lower-done : {s t : DOmegaUnitary} (u : Triple) → Lowering s t → triple s ≡ modEight u → T (reducedTest (triple t)) → Answers u (triple t)
+pub lower-done : {s t : DOmegaUnitary} (u : Triple) → Lowering s t → triple s ≡ modEight u → T (reducedTest (triple t)) → Answers (entries u) (triple t)
 lower-done {s} {t} u h e d =
     record {
       same = Same-trans (h .same) (Same-trans (Same-of (ap entries e)) (Same-of (modEight-same u)));
@@ -191,7 +191,7 @@ acted-plain l t r p g e =
 pub acted-I : (t : DOmegaUnitary) → Good t → Acted I t t
 acted-I t g = record { good = g; same = Same-of (acts I (triple t)); most = omega arith; least = omega arith }
 
-pub acted-H : (t m r : DOmegaUnitary) → Good t → triple m ≡ modEight (act H (triple t)) → Answers (triple m) (triple r) → Acted H t r
+pub acted-H : (t m r : DOmegaUnitary) → Good t → triple m ≡ modEight (act H (triple t)) → Answers (entries (triple m)) (triple r) → Acted H t r
 acted-H t m r g e a =
     record {
       good = record { unitary = unitary-same (Same-sym (a .same)) (moved-unitary H t m e (g .unitary)); reduced = a .reduced; n-small = a .n-small };

@@ -15,7 +15,6 @@ use mir.Val.{SFits, Fits, toZ, ofZ}
 use mir.Facts.{toZ-ofZ, toZ-pos}
 use Rattle.exact.specs.Meaning.Number.{ints}
 use Rattle.exact.specs.Meaning.Triple.{Triple, squares, crosses, Unitary}
-use Rattle.exact.specs.Meaning.Limits as Limits
 use Rattle.exact.specs.Meaning.Limits.{largest, deepest}
 use Rattle.exact.specs.Algebra.Over.{divides}
 use Rattle.exact.specs.Whole.Linear.{int, sum, difference}
@@ -23,12 +22,10 @@ use Rattle.exact.specs.Whole.Parity.{false-true}
 use Rattle.exact.specs.Whole.Size.{sfits-abs}
 use Rattle.exact.specs.Whole.Machine.{held, arg, lit, _∸_, need-by}
 use Rattle.exact.specs.Matrices.Sizes.{sized-le, squares-size, crosses-size}
-use Rattle.ring.specs.Number.{quad}
+use Rattle.ring.specs.Number.{quad, Small}
 use Rattle.ring.specs.declared.ZOmega.{ZOmega}
-use Rattle.ring.specs.Number.{Small}
-use Rattle.unitary.specs.declared.DOmegaUnitary.{DOmegaUnitary}
-use Rattle.unitary.specs.Triples.{triple, given, none}
-use Rattle.unitary.specs.Outcomes.{InExponents, InCoefficients, Answers, ReduceOutcome}
+use Rattle.exact.specs.Meaning.Refusals.{InExponents, InCoefficients, checks}
+use Rattle.exact.specs.Outcomes.Ladder.{Checks}
 
 -- a Boolean that says whether P holds
 pub record Decides (P : Type 0) (b : Bool) : Type 0 where
@@ -39,11 +36,9 @@ pub record Decides (P : Type 0) (b : Bool) : Type 0 where
 abbrev pub UnitaryAt : ℕ → ZOmega → ZOmega → Type 0
 UnitaryAt k z w = Unitary (record { k = k; n = 0; z = quad z; w = quad w })
 
-pub data CheckOutcome (k : ℤ) (z w : ZOmega) : ℕ → Type 0 where
-  exponent : (InExponents k → ⊥) → CheckOutcome k z w Limits.Exponent
-  coefficient : InExponents k → (InCoefficients z w → ⊥) → CheckOutcome k z w Limits.Coefficient
-  unitary : InExponents k → InCoefficients z w → (UnitaryAt (natAbs k) z w → ⊥) → CheckOutcome k z w Limits.Unitary
-  accepted : InExponents k → InCoefficients z w → UnitaryAt (natAbs k) z w → CheckOutcome k z w Limits.Accepted
+-- refusals 3, 4 and 5 by their number, or 0
+abbrev pub CheckOutcome : ℤ → ZOmega → ZOmega → ℕ → Type 0
+CheckOutcome k z w r = Checks (checks k (quad z) (quad w)) r
 
 -- ---- divisibility of both
 abbrev pub bothTest : Triple → Bool
@@ -137,7 +132,7 @@ halves-unitary k z w s c =
 size-fits : {x : ℤ} → natAbs x ≤ 2 ^ 62 → SFits w64 x
 size-fits h = sfits-abs (omega arith)
 
-module _ (k : ℕ) (z w : ZOmega) (hk : k ≤ deepest) (h : InCoefficients z w) where
+module _ (k : ℕ) (z w : ZOmega) (hk : k ≤ deepest) (h : InCoefficients (quad z) (quad w)) where
   module _ (p a b : ℤ) (ep : p ≡ pos (2 ^ k)) (ea : a ≡ squares ints (quad z)) (eb : b ≡ squares ints (quad w)) where
     p-size : natAbs p ≤ 2 ^ 60
     p-size = rw ep (pow-mono hk)
@@ -179,27 +174,3 @@ module _ (k : ℕ) (z w : ZOmega) (hk : k ≤ deepest) (h : InCoefficients z w) 
           yes = λ e. halves-unitary k z w s (sym ea ∙ same-bits a (pos 0 -ℤ held w64 b) (size-fits x-size) crosses-need (eqb-true (ofZ w64 a) (ofZ w64 (pos 0 -ℤ held w64 b)) e) ∙ crosses-are);
           no = λ e u. eqb-false (ofZ w64 a) (ofZ w64 (pos 0 -ℤ held w64 b)) e (ap (ofZ w64) (ea ∙ crosses-halves k z w u ∙ sym crosses-are));
         }
-
--- ---- from the check to job 1
-pub reduce-refused : {k : ℤ} {n : ℕ} {z w : ZOmega} (r : ℕ) → CheckOutcome k z w r → (r ≡ 0 → ⊥) → ReduceOutcome k n z w (record { refusal = r; matrix = none })
-reduce-refused r (exponent f) h = ReduceOutcome.exponent f
-reduce-refused r (coefficient e f) h = ReduceOutcome.coefficient e f
-reduce-refused r (unitary e c f) h = ReduceOutcome.unitary e c (λ u. f (record { squares-sum = u .squares-sum; crosses-sum = u .crosses-sum }))
-reduce-refused r (accepted e c u) h = absurd (h refl)
-
-pub record Taken (k : ℤ) (z w : ZOmega) : Type 0 where
-  pub exponent-in : InExponents k
-  pub coefficients-in : InCoefficients z w
-  pub unitary-there : UnitaryAt (natAbs k) z w
-
-pub check-taken : {k : ℤ} {z w : ZOmega} (r : ℕ) → CheckOutcome k z w r → r ≡ 0 → Taken k z w
-check-taken r (exponent f) h = absurd (omega arith)
-check-taken r (coefficient e f) h = absurd (omega arith)
-check-taken r (unitary e c f) h = absurd (omega arith)
-check-taken r (accepted e c u) h = record { exponent-in = e; coefficients-in = c; unitary-there = u }
-
-pub small-in : {z w : ZOmega} → InCoefficients z w → Small z × Small w
-small-in {z} {w} h = (record { sized = sized-le (omega arith) (h .z-in) }, record { sized = sized-le (omega arith) (h .w-in) })
-
-pub reduce-accepted : {k : ℤ} {n : ℕ} {z w : ZOmega} → Taken k z w → (t : DOmegaUnitary) → Answers (given k n z w) (triple t) → ReduceOutcome k n z w (record { refusal = 0; matrix = t })
-reduce-accepted h t a = ReduceOutcome.accepted (h .exponent-in) (h .coefficients-in) (record { squares-sum = h .unitary-there .squares-sum; crosses-sum = h .unitary-there .crosses-sum }) t a

@@ -2,6 +2,7 @@
 pub mod Triples
 pub mod Outcomes
 pub mod Checks
+pub mod Checked
 pub mod Acts
 pub mod Letters
 pub mod Reading

@@ -1,55 +1,46 @@
--- What jobs 1 and 2 promise, for every input, in document 01's words; and that two outcomes which meet the promise are equal. Assumes nothing.
+-- What jobs 1 and 2 promise, for every input, in document 01's words.
 use mathlib.Core.Path.{_≡_}
 use mathlib.Core.List.{List}
-use Prim.Native.Nat.{ℕ, _≤_, _<_}
-use lib.IntN.{ℤ, pos}
-use lib.ListN.{length}
-use lib.Signed.{_≤ℤ_}
-use Rattle.exact.specs.Meaning.Matrix.{Same}
-use Rattle.exact.specs.Meaning.Word.{Letter, word, bytes, job2, FirstOutside}
-use Rattle.exact.specs.Meaning.Triple.{Triple, entries, Unitary, Reduced}
-use Rattle.exact.specs.Meaning.Endings.{AllShallow, DeepAt}
-use Rattle.exact.specs.Meaning.Limits as Limits
-use Rattle.exact.specs.Meaning.Limits.{longest, deepest, largest}
-use Rattle.exact.specs.Meaning.Number.{Sized}
+use Prim.Native.Nat.{ℕ, _<_}
+use lib.IntN.{ℤ}
+use Rattle.exact.specs.Meaning.Matrix.{Matrix, Same}
+use Rattle.exact.specs.Meaning.Word.{Letter, word, job2, Spelled}
+use Rattle.exact.specs.Meaning.Triple.{Triple, entries, Reduced}
+use Rattle.exact.specs.Meaning.Limits.{Accepted}
+use Rattle.exact.specs.Meaning.Outcome.{Outcome, none, _then_}
+use Rattle.exact.specs.Meaning.Refusals.{long, letter, deep, checks}
 use Rattle.ring.specs.Number.{quad}
 use Rattle.ring.specs.declared.ZOmega.{ZOmega}
-use Rattle.unitary.specs.declared.DOmegaUnitary.{DOmegaUnitary}
 use Rattle.unitary.specs.declared.Checked.{Checked}
 use Rattle.unitary.specs.declared.FromGates.{FromGates}
-use Rattle.unitary.specs.Triples.{triple, given, none}
+use Rattle.unitary.specs.Triples as Triples
+use Rattle.unitary.specs.Triples.{triple, given}
 
--- ---- the conditions of refusals 3 and 4
-pub record InExponents (k : ℤ) : Type 0 where
-  pub low : pos 0 ≤ℤ k
-  pub high : k ≤ℤ pos deepest
-
-pub record InCoefficients (z w : ZOmega) : Type 0 where
-  pub z-in : Sized largest (quad z)
-  pub w-in : Sized largest (quad w)
-
--- t is the reduced triple of the same matrix as s, n from 0 to 7
-pub record Answers (s t : Triple) : Type 0 where
-  pub same : Same (entries t) (entries s)
+-- t is the reduced triple of the matrix m, n from 0 to 7
+pub record Answers (m : Matrix) (t : Triple) : Type 0 where
+  pub same : Same (entries t) m
   pub reduced : Reduced t
   pub n-small : t .n < 8
 
 -- ---- job 1
-abbrev refused : ℕ → Checked
-refused r = record { refusal = r; matrix = none }
+abbrev pub refused : ℕ → ℕ → Checked
+refused n p = record { refusal = n; matrix = Triples.none }
 
-pub data ReduceOutcome (k : ℤ) (n : ℕ) (z w : ZOmega) : Checked → Type 0 where
-  exponent : (InExponents k → ⊥) → ReduceOutcome k n z w (refused Limits.Exponent)
-  coefficient : InExponents k → (InCoefficients z w → ⊥) → ReduceOutcome k n z w (refused Limits.Coefficient)
-  unitary : InExponents k → InCoefficients z w → (Unitary (given k n z w) → ⊥) → ReduceOutcome k n z w (refused Limits.Unitary)
-  accepted : InExponents k → InCoefficients z w → Unitary (given k n z w) → (t : DOmegaUnitary) → Answers (given k n z w) (triple t) → ReduceOutcome k n z w (record { refusal = Limits.Accepted; matrix = t })
+pub record Reduces (m : Matrix) (r : Checked) : Type 0 where
+  pub taken : r .refusal ≡ Accepted
+  pub answer : Answers m (triple (r .matrix))
+
+abbrev pub ReduceOutcome : ℤ → ℕ → ZOmega → ZOmega → Checked → Type 0
+ReduceOutcome k n z w r = Outcome refused (Reduces (entries (given k n z w))) (checks k (quad z) (quad w)) r
 
 -- ---- job 2
-abbrev stopped : ℕ → ℕ → FromGates
-stopped r p = record { refusal = r; place = p; matrix = none }
+abbrev pub stopped : ℕ → ℕ → FromGates
+stopped n p = record { refusal = n; place = p; matrix = Triples.none }
 
-pub data MatrixOutcome (bs : List ℕ) : FromGates → Type 0 where
-  long : longest < length bs → MatrixOutcome bs (stopped Limits.Long 0)
-  letter : length bs ≤ longest → (place : ℕ) → FirstOutside job2 bs place → MatrixOutcome bs (stopped Limits.Letter place)
-  deep : length bs ≤ longest → (u : List Letter) → bytes u ≡ bs → (place : ℕ) → DeepAt u place → MatrixOutcome bs (stopped Limits.Deep place)
-  accepted : length bs ≤ longest → (u : List Letter) → bytes u ≡ bs → AllShallow u → (t : DOmegaUnitary) → Same (entries (triple t)) (word u) → Reduced (triple t) → t .n < 8 → MatrixOutcome bs (record { refusal = Limits.Accepted; place = 0; matrix = t })
+pub record Multiplies (u : List Letter) (r : FromGates) : Type 0 where
+  pub taken : r .refusal ≡ Accepted
+  pub nowhere : r .place ≡ 0
+  pub answer : Answers (word u) (triple (r .matrix))
+
+abbrev pub MatrixOutcome : List ℕ → FromGates → Type 0
+MatrixOutcome w r = Outcome stopped (Spelled Multiplies w) (long w then letter job2 w then deep w then none) r

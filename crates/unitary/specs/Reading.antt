@@ -1,5 +1,5 @@
 -- Reading a word from its right end: what is known of the ending that has been read. Assumes nothing.
-use mathlib.Core.Path.{_≡_, refl, sym, ap, subst}
+use mathlib.Core.Path.{_≡_, refl, sym, _∙_, ap, subst}
 use mathlib.Core.Bool.{Bool, true, false}
 use mathlib.Core.List.{List, [], _∷_}
 use Prim.Native.Nat.{ℕ, zero, suc, _-_, _≤_, _<_}
@@ -8,18 +8,25 @@ use borrow.Author.Tests.{eqb-true, eqb-false}
 use lib.Dec.{eqb}
 use lib.ListN.{length, drop, getD}
 use Rattle.exact.specs.Meaning.Matrix.{Same, Least}
-use Rattle.exact.specs.Meaning.Word.{Letter, letter, word, In, job2}
+use Rattle.exact.specs.Meaning.Word.{Letter, word, bytes, job2, Spelled}
+use Rattle.exact.specs.Meaning.Word as Word
 use Rattle.exact.specs.Meaning.Triple.{entries}
 use Rattle.exact.specs.Meaning.Endings.{Shallow, DeepAt}
+use Rattle.exact.specs.Meaning.Limits as Limits
 use Rattle.exact.specs.Meaning.Limits.{longest, deepest}
-use Rattle.exact.specs.Cases.Letters.{letterOf, lettersOf}
+use Rattle.exact.specs.Meaning.Outcome.{Outcome, Rung, none, _then_}
+use Rattle.exact.specs.Meaning.Refusals.{long, letter, deep}
+use Rattle.exact.specs.Outcomes.Ladder.{Passed, pass}
+use Rattle.exact.specs.Outcomes.Places.{not-both}
+use Rattle.exact.specs.Cases.Letters.{letterOf, lettersOf, bytes-inj}
 use Rattle.exact.specs.Matrices.Same.{Same-refl, Same-trans, Same-of, Same-mul}
 use Rattle.exact.specs.Matrices.Least.{least-same, test-reduced}
 use Rattle.exact.specs.Matrices.Triples.{identity}
 use Rattle.unitary.specs.declared.DOmegaUnitary.{DOmegaUnitary}
+use Rattle.unitary.specs.declared.FromGates.{FromGates}
 use Rattle.unitary.specs.Triples.{triple}
-use Rattle.unitary.specs.Outcomes.{MatrixOutcome}
-use Rattle.unitary.specs.Letters.{all-spell}
+use Rattle.unitary.specs.Outcomes.{Answers, stopped, Multiplies, MatrixOutcome}
+use Rattle.unitary.specs.Letters.{Scanned, scanned-first, scanned-all, all-spell}
 use Rattle.unitary.specs.Acts.{Good, Acted}
 
 -- the letters from place i on have been read
@@ -41,7 +48,7 @@ next-letter (b ∷ bs) (suc i) h = next-letter bs i (omega arith)
 
 module _ (bs : List ℕ) (i : ℕ) (h : i < length bs) (t r : DOmegaUnitary) (read : Read (lettersOf bs) (suc i) t) (acted : Acted (letterOf (getD bs i 0)) t r) where
   joined : Same (entries (triple r)) (word (drop i (lettersOf bs)))
-  joined = subst (λ (u : List Letter). Same (entries (triple r)) (word u)) (sym (next-letter bs i h)) (Same-trans (acted .same) (Same-mul (Same-refl (letter (letterOf (getD bs i 0)))) (read .same)))
+  joined = subst (λ (u : List Letter). Same (entries (triple r)) (word u)) (sym (next-letter bs i h)) (Same-trans (acted .same) (Same-mul (Same-refl (Word.letter (letterOf (getD bs i 0)))) (read .same)))
 
   here : Least (word (drop i (lettersOf bs))) (r .k)
   here = least-same joined (acted .good .reduced .least)
@@ -82,19 +89,49 @@ read-start bs t e =
     record {
       good = good;
       few = omega (arith, ap (λ u. u .k) e);
-      same = none (length bs) (omega (arith, length-letters bs));
-      after = λ start a b. record { k = t .k; least = least-same (none start (omega (arith, length-letters bs))) (good .reduced .least); few = omega (arith, ap (λ u. u .k) e) };
+      same = nothing-read (length bs) (omega (arith, length-letters bs));
+      after = λ start a b. record { k = t .k; least = least-same (nothing-read start (omega (arith, length-letters bs))) (good .reduced .least); few = omega (arith, ap (λ u. u .k) e) };
     }
   where
     good : Good t
     good = record { unitary = rw e (record { squares-sum = refl; crosses-sum = refl }); reduced = test-reduced (triple t) (rw e tt); n-small = omega (arith, ap (λ u. u .n) e) }
 
-    none : (i : ℕ) → length (lettersOf bs) ≤ i → Same (entries (triple t)) (word (drop i (lettersOf bs)))
-    none i h = subst (λ (u : List Letter). Same (entries (triple t)) (word u)) (sym (drop-all (lettersOf bs) i h)) (Same-of (ap entries e))
+    nothing-read : (i : ℕ) → length (lettersOf bs) ≤ i → Same (entries (triple t)) (word (drop i (lettersOf bs)))
+    nothing-read i h = subst (λ (u : List Letter). Same (entries (triple t)) (word u)) (sym (drop-all (lettersOf bs) i h)) (Same-of (ap entries e))
 
--- ---- the outcomes
-module _ (bs : List ℕ) (few : length bs ≤ longest) (all : (i : ℕ) → i < length bs → In job2 (getD bs i 0)) where
-  pub read-whole : (t : DOmegaUnitary) (i : ℕ) → i ≤ 0 → Read (lettersOf bs) i t → MatrixOutcome bs (record { refusal = 0; place = 0; matrix = t })
+-- ---- the ways out of job 2
+module _ (w : List ℕ) (r : FromGates) where
+  pub refused-long : longest < length w → r ≡ stopped Limits.Long 0 → MatrixOutcome w r
+  refused-long l e = Rung.given 0 (l, refl) e
+
+  pub refused-letter : (p : ℕ) → length w ≤ longest → Scanned job2 w p → p < length w → r ≡ stopped Limits.Letter p → MatrixOutcome w r
+  refused-letter p l s h e = Rung.passed (λ q k. omega (arith, k .0)) (Rung.given p (scanned-first s h) e)
+
+module _ (w : List ℕ) (few : length w ≤ longest) (b : ℕ) (s : Scanned job2 w b) (all : length w ≤ b) where
+  spelled : bytes (lettersOf w) ≡ w
+  spelled = all-spell w (scanned-all s all)
+
+  letters-passed : Passed (long w then letter job2 w then none)
+  letters-passed = ((λ p h. omega (arith, h .0)), ((λ p h. h .outside (scanned-all s all p (h .there))), tt))
+
+  behind : (r : FromGates) → Outcome stopped (Spelled Multiplies w) (deep w then none) r → MatrixOutcome w r
+  behind = pass stopped (Spelled Multiplies w) (long w then letter job2 w then none) (deep w then none) letters-passed
+
+  module _ (i : ℕ) (some : 0 < i) (inside : i ≤ length w) (t r : DOmegaUnitary) (read : Read (lettersOf w) i t) (acted : Acted (letterOf (getD w (i - 1) 0)) t r) where
+    pub refused-deep : deepest < r .k → (o : FromGates) → o ≡ stopped Limits.Deep (i - 1) → MatrixOutcome w o
+    refused-deep l o e =
+        behind o (Rung.given (i - 1) (record { letters = lettersOf w; spelled = spelled; holds = step-deep w i some inside t r read acted l }) e)
+
+  pub read-whole : (t : DOmegaUnitary) (i : ℕ) → i ≤ 0 → Read (lettersOf w) i t → MatrixOutcome w (record { refusal = Limits.Accepted; place = 0; matrix = t })
   read-whole t zero h read =
-      MatrixOutcome.accepted few (lettersOf bs) (all-spell bs all) (record { at = λ start l. read .after start (omega arith) l }) t (read .same) (read .good .reduced) (read .good .n-small)
+      behind (record { refusal = Limits.Accepted; place = 0; matrix = t })
+      (Rung.passed not-deep (record { letters = lettersOf w; spelled = spelled; holds = record { taken = refl; nowhere = refl; answer = answer } }))
+    where
+      not-deep : (p : ℕ) → Spelled DeepAt w p → ⊥
+      not-deep p d =
+          let d′ = subst (λ (u : List Letter). DeepAt u p) (bytes-inj (d .letters) (lettersOf w) (d .spelled ∙ sym spelled)) (d .holds) in
+          not-both (read .after p (omega arith) (omega (arith, d′ .there))) (d′ .deep)
+
+      answer : Answers (word (lettersOf w)) (triple t)
+      answer = record { same = read .same; reduced = read .good .reduced; n-small = read .good .n-small }
   read-whole t (suc i) h read = absurd (omega arith)

@@ -6,12 +6,14 @@ ghost use Rattle.exact.specs.Meaning.Limits.{largest, deepest};
 ghost use Rattle.exact.specs.Meaning.Number.{Sized};
 ghost use Rattle.exact.specs.Meaning.Word as Word;
 ghost use Rattle.exact.specs.Meaning.Word.{In};
+ghost use Rattle.exact.specs.Meaning.Triple.{entries};
+ghost use Rattle.exact.specs.Meaning.Refusals.{InCoefficients};
 ghost use Rattle.exact.specs.Cases.Letters.{letterOf};
 ghost use Rattle.exact.specs.Matrices.Least.{lowered, modEight};
 ghost use Rattle.exact.specs.Matrices.Triples.{act, identity};
 ghost use Rattle.ring.specs.Number.{quad, Small};
 ghost use Rattle.unitary.specs.Triples.{triple, none};
-ghost use Rattle.unitary.specs.Outcomes.{InCoefficients, Answers, ReduceOutcome, MatrixOutcome};
+ghost use Rattle.unitary.specs.Outcomes.{Answers, ReduceOutcome, stopped, MatrixOutcome};
 ghost use Rattle.unitary.specs.Checks.{Decides, UnitaryAt, CheckOutcome, bothTest};
 ghost use Rattle.unitary.specs.Letters.{Scanned};
 ghost use Rattle.unitary.specs.Acts.{Good, Acted, Both, halved, turnedBack};
@@ -75,7 +77,7 @@ fn power_of_two(k: u8) -> i64
 
 // Both sums, each compared in two halves: the eight squares alone could pass 64 signed bits.
 fn is_unitary(k: u8, z: ZOmega, w: ZOmega) -> bool
-    requires { ⌜ k ≤ deepest ⌝ ∗ ⌜ InCoefficients z w ⌝ }
+    requires { ⌜ k ≤ deepest ⌝ ∗ ⌜ InCoefficients (quad z) (quad w) ⌝ }
     ensures { λ r. ⌜ Decides (UnitaryAt k z w) r ⌝ }
 {
     let size = power_of_two(k);
@@ -212,7 +214,7 @@ impl DOmegaUnitary {
     // The reduced triple of the same matrix, n from 0 to 7.
     pub fn reduce_denomexp(self) -> DOmegaUnitary
         requires { ⌜ Small (self .z) ⌝ ∗ ⌜ Small (self .w) ⌝ }
-        ensures { λ r. ⌜ Answers (triple self) (triple r) ⌝ }
+        ensures { λ r. ⌜ Answers (entries (triple self)) (triple r) ⌝ }
     {
         let z = self.z;
         let w = self.w;
@@ -434,26 +436,27 @@ impl DOmegaUnitary {
     }
 }
 
+fn stopped(number: u8, place: usize) -> FromGates
+    ensures { λ r. ⌜ r ≡ stopped number place ⌝ }
+{
+    let matrix = nothing();
+    FromGates {
+        refusal: number,
+        place: place,
+        matrix: matrix,
+    }
+}
+
 // Job 2: word to matrix. The word is read from its right end, and each ending is kept reduced.
 pub fn from_gates(word: &[u8]) -> FromGates
     ensures { λ r. ⌜ MatrixOutcome (now (word .entry)) r ⌝ }
 {
     if word.len() > exact::LONGEST {
-        let matrix = nothing();
-        return FromGates {
-            refusal: exact::LONG,
-            place: 0,
-            matrix: matrix,
-        };
+        return stopped(exact::LONG, 0);
     }
     let bad = first_outside(word);
     if bad < word.len() {
-        let matrix = nothing();
-        return FromGates {
-            refusal: exact::LETTER,
-            place: bad,
-            matrix: matrix,
-        };
+        return stopped(exact::LETTER, bad);
     }
     let mut t = DOmegaUnitary::identity();
     let mut i = word.len();
@@ -462,12 +465,7 @@ pub fn from_gates(word: &[u8]) -> FromGates
         let g = word[at];
         t = t.mul_by_letter_from_left(g);
         if t.k > 60 {
-            let matrix = nothing();
-            return FromGates {
-                refusal: exact::DEEP,
-                place: at,
-                matrix: matrix,
-            };
+            return stopped(exact::DEEP, at);
         }
         i = at;
     }
