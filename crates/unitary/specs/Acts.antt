@@ -7,8 +7,8 @@ use lib.IntN.{pos, _+ℤ_}
 use borrow.Author.Tests.{ne-eqb}
 use Prim.Native.Nat.{ℕ, zero, suc, _≤_, _<_, _+_, _-_, _^_}
 use Rattle.exact.specs.Meaning.Matrix.{Same, _·_, unit}
-use Rattle.exact.specs.Meaning.Word.{Letter, I, H, S, X, W, T′, letter}
-use Rattle.exact.specs.Cases.Letters.{letterOf}
+use Rattle.exact.specs.Meaning.Word.{Letter, I, H, S, X, W, T′, letter, byte}
+use Rattle.exact.specs.Cases.Letters.{letterOf, letterOf-byte}
 use Rattle.exact.specs.Meaning.Triple.{Triple, entries, Unitary, Reduced}
 use Rattle.exact.specs.Meaning.Limits.{deepest}
 use Rattle.exact.specs.Meaning.Number.{Ω, ints, omegas, negQ, mulQ, omega′, omega^, odd, Sized}
@@ -68,40 +68,42 @@ pub record Lowering (s t : DOmegaUnitary) : Type 0 where
   pub w-small : Small (t .w)
   pub n-same : t .n ≡ s .n
 
-pub lower-more : {s t r : DOmegaUnitary} → Lowering s t → bothTest (triple t) ≡ true → Both (λ k. triple r ≡ lowered k (triple t)) (t .k) → Lowering s r
-lower-more {s} {t} {r} h d b =
-    record {
-      same = Same-trans (Same-trans (Same-of (ap entries (b .holds))) (lowered-same (b .before) (triple t) (b .is) (rw d tt))) (h .same);
-      z-small = record { sized = subst (Sized (2 ^ 31)) (sym (ap (λ u. u .z) (b .holds))) (over-sized (2 ^ 31) (quad (t .z)) (h .z-small .sized)) };
-      w-small = record { sized = subst (Sized (2 ^ 31)) (sym (ap (λ u. u .w) (b .holds))) (over-sized (2 ^ 31) (quad (t .w)) (h .w-small .sized)) };
-      n-same = ap (λ u. u .n) (b .holds) ∙ h .n-same;
-    }
+module _ {s t r : DOmegaUnitary} (h : Lowering s t) {b : Bool} (test : b ≡ bothTest (triple t)) (yes : b ≡ true) where
+  pub lower-more : Both (λ k. triple r ≡ lowered k (triple t)) (t .k) → Lowering s r
+  lower-more e =
+      record {
+        same = Same-trans (Same-trans (Same-of (ap entries (e .holds))) (lowered-same (e .before) (triple t) (e .is) (rw (sym test ∙ yes) tt))) (h .same);
+        z-small = record { sized = subst (Sized (2 ^ 31)) (sym (ap (λ u. u .z) (e .holds))) (over-sized (2 ^ 31) (quad (t .z)) (h .z-small .sized)) };
+        w-small = record { sized = subst (Sized (2 ^ 31)) (sym (ap (λ u. u .w) (e .holds))) (over-sized (2 ^ 31) (quad (t .w)) (h .w-small .sized)) };
+        n-same = ap (λ u. u .n) (e .holds) ∙ h .n-same;
+      }
 
 pub lower-less : (t r : DOmegaUnitary) → Both (λ k. triple r ≡ lowered k (triple t)) (t .k) → r .k < t .k
 lower-less t r b = omega (arith, b .is, ap (λ u. u .k) (b .holds))
 
 -- where no further division is made, the triple is reduced
-pub lower-done : {s t : DOmegaUnitary} (u : Triple) → Lowering s t → triple s ≡ modEight u → T (reducedTest (triple t)) → Answers (entries u) (triple t)
-lower-done {s} {t} u h e d =
-    record {
-      same = Same-trans (h .same) (Same-trans (Same-of (ap entries e)) (Same-of (modEight-same u)));
-      reduced = test-reduced (triple t) d;
-      n-small = omega (arith, h .n-same, ap (λ v. v .n) e);
-    }
+module _ {s t : DOmegaUnitary} (u : Triple) (h : Lowering s t) (e : triple s ≡ modEight u) where
+  lowest-left : T (reducedTest (triple t)) → Answers (entries u) (triple t)
+  lowest-left d =
+      record {
+        same = Same-trans (h .same) (Same-trans (Same-of (ap entries e)) (Same-of (modEight-same u)));
+        reduced = test-reduced (triple t) d;
+        n-small = omega (arith, h .n-same, ap (λ v. v .n) e);
+      }
 
-pub none-left : (t : DOmegaUnitary) → t .k ≤ 0 → T (reducedTest (triple t))
-none-left t h = go (t .k) h
-  where
-    go : (k : ℕ) → k ≤ 0 → T (lowest k (divides (quad (t .z)) && divides (quad (t .w))))
-    go zero h = tt
-    go (suc k) h = absurd (omega arith)
+  pub lower-none : t .k ≤ 0 → Answers (entries u) (triple t)
+  lower-none l = lowest-left (go (t .k) l)
+    where
+      go : (k : ℕ) → k ≤ 0 → T (lowest k (divides (quad (t .z)) && divides (quad (t .w))))
+      go zero h = tt
+      go (suc k) h = absurd (omega arith)
 
-pub not-divisible : (t : DOmegaUnitary) → bothTest (triple t) ≡ false → T (reducedTest (triple t))
-not-divisible t e = go (t .k)
-  where
-    go : (k : ℕ) → T (lowest k (divides (quad (t .z)) && divides (quad (t .w))))
-    go zero = tt
-    go (suc k) = rw e tt
+  pub lower-done : {b : Bool} → b ≡ bothTest (triple t) → b ≡ false → Answers (entries u) (triple t)
+  lower-done {b} test stop = lowest-left (go (t .k))
+    where
+      go : (k : ℕ) → T (lowest k (divides (quad (t .z)) && divides (quad (t .w))))
+      go zero = tt
+      go (suc k) = rw (sym test ∙ stop) tt
 
 -- ---- within the limits, coefficients are small
 module _ (t : DOmegaUnitary) (g : Good t) (h : t .k ≤ deepest) where
@@ -173,7 +175,7 @@ module _ (l : Letter) (t r : DOmegaUnitary) (e : triple r ≡ modEight (act l (t
   pub moved-n : r .n < 8
   moved-n = omega (arith, ap (λ u. u .n) e)
 
-pub acted-plain : (l : Letter) (t r : DOmegaUnitary) → T (plain l) → Good t → triple r ≡ modEight (act l (triple t)) → Acted l t r
+acted-plain : (l : Letter) (t r : DOmegaUnitary) → T (plain l) → Good t → triple r ≡ modEight (act l (triple t)) → Acted l t r
 acted-plain l t r p g e =
     record {
       good = record { unitary = moved-unitary l t r e (g .unitary); reduced = test-reduced (triple r) (subst T (sym test) (reduced-test (triple t) (g .reduced))); n-small = moved-n l t r e };
@@ -188,10 +190,10 @@ acted-plain l t r p g e =
     test : reducedTest (triple r) ≡ reducedTest (triple t)
     test = ap₂ lowest k-same (ap bothTest e ∙ plain-both l p (triple t))
 
-pub acted-I : (t : DOmegaUnitary) → Good t → Acted I t t
+acted-I : (t : DOmegaUnitary) → Good t → Acted I t t
 acted-I t g = record { good = g; same = Same-of (acts I (triple t)); most = omega arith; least = omega arith }
 
-pub acted-H : (t m r : DOmegaUnitary) → Good t → triple m ≡ modEight (act H (triple t)) → Answers (entries (triple m)) (triple r) → Acted H t r
+acted-H : (t m r : DOmegaUnitary) → Good t → triple m ≡ modEight (act H (triple t)) → Answers (entries (triple m)) (triple r) → Acted H t r
 acted-H t m r g e a =
     record {
       good = record { unitary = unitary-same (Same-sym (a .same)) (moved-unitary H t m e (g .unitary)); reduced = a .reduced; n-small = a .n-small };
@@ -212,8 +214,15 @@ acted-H t m r g e a =
         (Same-trans (Same-mul (same-by (letter H · letter H) unit tt) (Same-refl (entries (triple t)))) (Same-of (unit-mul (entries (triple t)))))))
 
 -- ---- which letter a byte is
-pub of-byte : {l : Letter} {t r : DOmegaUnitary} (g : ℕ) → letterOf g ≡ l → Acted l t r → Acted (letterOf g) t r
+of-byte : {l : Letter} {t r : DOmegaUnitary} (g : ℕ) → letterOf g ≡ l → Acted l t r → Acted (letterOf g) t r
 of-byte {l} {t} {r} g e a = subst (λ (k : Letter). Acted k t r) (sym e) a
 
-pub other-byte : (g : ℕ) → (g ≡ 72 → ⊥) → (g ≡ 83 → ⊥) → (g ≡ 88 → ⊥) → (g ≡ 87 → ⊥) → (g ≡ 84 → ⊥) → letterOf g ≡ I
-other-byte g h s x w t = rw (ne-eqb g 72 h, ne-eqb g 83 s, ne-eqb g 88 x, ne-eqb g 87 w, ne-eqb g 84 t)
+pub byte-plain : (l : Letter) (g : ℕ) (t r : DOmegaUnitary) → g ≡ byte l → T (plain l) → Good t → triple r ≡ modEight (act l (triple t)) → Acted (letterOf g) t r
+byte-plain l g t r b p h e = of-byte g (ap letterOf b ∙ letterOf-byte l) (acted-plain l t r p h e)
+
+pub byte-H : (g : ℕ) (t m r : DOmegaUnitary) → g ≡ byte H → Good t → triple m ≡ modEight (act H (triple t)) → Answers (entries (triple m)) (triple r)
+    → Acted (letterOf g) t r
+byte-H g t m r b h e a = of-byte g (ap letterOf b) (acted-H t m r h e a)
+
+pub byte-none : (g : ℕ) (t : DOmegaUnitary) → (g ≡ 72 → ⊥) → (g ≡ 83 → ⊥) → (g ≡ 88 → ⊥) → (g ≡ 87 → ⊥) → (g ≡ 84 → ⊥) → Good t → Acted (letterOf g) t t
+byte-none g t h s x w v good = of-byte g (rw (ne-eqb g 72 h, ne-eqb g 83 s, ne-eqb g 88 x, ne-eqb g 87 w, ne-eqb g 84 v)) (acted-I t good)

@@ -1,11 +1,11 @@
 -- The checks of jobs 1, 4 and 7: what each test says. Assumes nothing.
 use mathlib.Core.Path.{_≡_, refl, sym, _∙_, ap, ap₂, subst}
-use mathlib.Core.Bool.{Bool, true, false, _&&_}
+use mathlib.Core.Bool.{Bool, true, false, not, _&&_}
 use mathlib.Core.List.{[], _∷_}
 use Prim.Native.Nat.{ℕ, _*_, _%_, _^_, _≤_, _<_}
 use native.Mathlib.Nat.{mod-eq-of-lt, one-mul}
 use native.Mathlib.Omega.{arith}
-use borrow.Author.Tests.{leb-true, leb-false, ltb-true, ltb-false, eqb-true, eqb-false}
+use borrow.Author.Tests.{leb-true, leb-false, ltb-true, ltb-false, eqb-true, eqb-false, not-true, not-false}
 use lib.Dec.{T, eqb, leb→le, le→leb}
 use lib.IntN.{ℤ, pos, negsuc, natAbs, _-ℤ_}
 use lib.Pow.{pow-mono}
@@ -13,7 +13,7 @@ use lib.Signed.{leZ, ltZ, nonNeg, mag}
 use mir.Syntax.{w8, w64}
 use mir.Val.{SFits, Fits, toZ, ofZ}
 use mir.Facts.{toZ-ofZ, toZ-pos}
-use Rattle.exact.specs.Meaning.Number.{ints}
+use Rattle.exact.specs.Meaning.Number.{ints, Sized}
 use Rattle.exact.specs.Meaning.Triple.{Triple, squares, crosses, Unitary}
 use Rattle.exact.specs.Meaning.Limits.{largest, deepest}
 use Rattle.exact.specs.Algebra.Over.{divides}
@@ -49,11 +49,25 @@ pub refutes : {P : Type 0} → (P → ⊥) → Decides P false
 refutes f = record { yes = λ e. absurd (false-true e); no = λ e. f }
 
 -- of a number x as the machine reads it back
-pub met : {n : ℕ} {b : Bool} (x : ℤ) → mag x < 2 ^ 63 → Decides (natAbs (held w64 x) ≤ n) b → b ≡ true → natAbs x ≤ n
-met {n} x f d t = subst (λ (y : ℤ). natAbs y ≤ n) (toZ-ofZ {w = w64} {z = x} (record { sfits = f })) (d .yes t)
+module _ {n : ℕ} {b : Bool} (x : ℤ) (f : mag x < 2 ^ 63) (d : Decides (natAbs (held w64 x) ≤ n) b) where
+  pub met : not b ≡ false → natAbs x ≤ n
+  met t = subst (λ (y : ℤ). natAbs y ≤ n) (toZ-ofZ {w = w64} {z = x} (record { sfits = f })) (d .yes (not-false b t))
 
-pub missed : {n : ℕ} {b : Bool} (x : ℤ) → mag x < 2 ^ 63 → Decides (natAbs (held w64 x) ≤ n) b → b ≡ false → natAbs x ≤ n → ⊥
-missed {n} x f d t h = d .no t (subst (λ (y : ℤ). natAbs y ≤ n) (sym (toZ-ofZ {w = w64} {z = x} (record { sfits = f }))) h)
+  missed : b ≡ false → natAbs x ≤ n → ⊥
+  missed t h = d .no t (subst (λ (y : ℤ). natAbs y ≤ n) (sym (toZ-ofZ {w = w64} {z = x} (record { sfits = f }))) h)
+
+  -- where P needs it
+  pub out : {P : Type 0} → (P → natAbs x ≤ n) → not b ≡ true → Decides P false
+  out g t = refutes (λ p. missed (not-true b t) (g p))
+
+-- the last coefficient decides
+module _ (x : ZOmega) (f : mag (x .d) < 2 ^ 63) {b : Bool} (d : Decides (natAbs (held w64 (x .d)) ≤ largest) b) where
+  pub last-decides : natAbs (x .a) ≤ largest → natAbs (x .b) ≤ largest → natAbs (x .c) ≤ largest → Decides (Sized largest (quad x)) b
+  last-decides a-in b-in c-in =
+      record {
+        yes = λ e. record { a-small = a-in; b-small = b-in; c-small = c-in; d-small = met (x .d) f d (rw e refl) };
+        no = λ e s. missed (x .d) f d e (s .d-small);
+      }
 
 -- of a number that the machine has as v
 module _ (x v : ℤ) (is : v ≡ x) where

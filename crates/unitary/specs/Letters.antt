@@ -1,10 +1,10 @@
 -- Which bytes are letters, and the first that is none. Assumes nothing.
 use mathlib.Core.Path.{_≡_, refl, sym, ap₂, subst}
-use mathlib.Core.Bool.{Bool, true, false}
+use mathlib.Core.Bool.{Bool, true, false, not}
 use mathlib.Core.List.{List, [], _∷_}
 use Prim.Native.Nat.{ℕ, suc, _+_, _≤_, _<_}
 use native.Mathlib.Omega.{arith}
-use borrow.Author.Tests.{eqb-true, eqb-false}
+use borrow.Author.Tests.{eqb-true, eqb-false, not-true, not-false}
 use lib.Dec.{eqb}
 use lib.ListN.{length, getD}
 use Rattle.exact.specs.Meaning.Word.{Letter, I, H, S, X, W, T′, byte, bytes, In, FirstOutside, job2}
@@ -18,12 +18,24 @@ pub record Scanned (alphabet : Letter → Bool) (bs : List ℕ) (r : ℕ) : Type
   pub outside : r < length bs → In alphabet (getD bs r 0) → ⊥
 
 -- what holds at each place before i, and at i, holds before i + 1
-pub below-next : {P : ℕ → Type 0} (i : ℕ) → ((j : ℕ) → j < i → P j) → P i → (j : ℕ) → j < i + 1 → P j
+below-next : {P : ℕ → Type 0} (i : ℕ) → ((j : ℕ) → j < i → P j) → P i → (j : ℕ) → j < i + 1 → P j
 below-next {P} i h p j l = go (eqb j i) refl
   where
     go : (b : Bool) → eqb j i ≡ b → P j
     go true e = subst P (sym (eqb-true j i e)) p
     go false e = h j (omega (arith, eqb-false j i e))
+
+-- one place more, and the two ways out of the scan
+module _ {alphabet : Letter → Bool} (bs : List ℕ) (i : ℕ) (passed : (j : ℕ) → j < i → In alphabet (getD bs j 0)) where
+  module _ {b : Bool} (d : Decides (In alphabet (getD bs i 0)) b) where
+    pub scanned-more : not b ≡ false → (j : ℕ) → j < i + 1 → In alphabet (getD bs j 0)
+    scanned-more t = below-next i passed (d .yes (not-false b t))
+
+    pub scanned-stop : not b ≡ true → i < length bs → Scanned alphabet bs i
+    scanned-stop t h = record { most = omega arith; before = passed; outside = λ l. d .no (not-true b t) }
+
+  pub scanned-end : i ≤ length bs → length bs ≤ i → Scanned alphabet bs i
+  scanned-end l h = record { most = l; before = passed; outside = λ k. absurd (omega arith) }
 
 pub scanned-first : {alphabet : Letter → Bool} {bs : List ℕ} {r : ℕ} → Scanned alphabet bs r → r < length bs → FirstOutside alphabet bs r
 scanned-first s h = record { there = h; outside = s .outside h; before = s .before }

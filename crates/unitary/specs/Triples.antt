@@ -16,6 +16,9 @@ triple t = record { k = t .k; n = t .n; z = quad (t .z); w = quad (t .w) }
 abbrev pub given : ℤ → ℕ → ZOmega → ZOmega → Triple
 given k n z w = handedIn k n (quad z) (quad w)
 
+pub by-parts : {s t : Triple} → s .k ≡ t .k → s .n ≡ t .n → s .z ≡ t .z → s .w ≡ t .w → s ≡ t
+by-parts k n z w = λ i. record { k = k i; n = n i; z = z i; w = w i }
+
 abbrev pub number : Ω → ZOmega
 number x = record { a = x .a; b = x .b; c = x .c; d = x .d }
 

@@ -1,11 +1,10 @@
 -- `unitary::first_outside` meets its contract. The invariant: every byte passed is a letter; the measure is what is left of the length.
-
 use Prim.Native.Nat.{ℕ, _≤_, _<_, _-_}
 use native.Mathlib.Omega.{arith}
-use borrow.Author.Tests.{not-true, not-false}
+use borrow.Author.Needs.{needs}
 use lib.ListN.{length, getD}
 use Rattle.exact.specs.Meaning.Word.{In, job2}
-use Rattle.unitary.specs.Letters.{below-next}
+use Rattle.unitary.specs.Letters.{scanned-more, scanned-stop, scanned-end}
 use Rattle.unitary.proofs.first_outside.Statement.{statement}
 use Rattle.unitary.proofs.first_outside.Tie as tie
 
@@ -25,7 +24,7 @@ is-letter-requires : tie.Need-is-letter-requires Inv-loop μ-loop
 is-letter-requires c κs = tt
 
 returns : tie.Need-returns Inv-loop μ-loop
-returns c = record { most = omega arith; before = c .before .before .before .before .loop .inv .1; outside = λ h. c .before .is-letter .ensures .no (not-true _ (c .if1 .taken)) }
+returns c = search (needs, scanned-stop)
 
 add-i : tie.Need-add-i Inv-loop μ-loop
 add-i c = omega arith
@@ -34,10 +33,10 @@ loop-less : tie.Need-loop-less Inv-loop μ-loop
 loop-less c = omega arith
 
 loop-again : tie.Need-loop-again Inv-loop μ-loop
-loop-again c = (omega arith, below-next (c .before .before .before .before .loop .i) (c .before .before .before .before .loop .inv .1) (c .before .is-letter .ensures .yes (not-false _ (c .if1 .left))))
+loop-again c = (omega arith, search (needs, scanned-more))
 
 returns-2 : tie.Need-returns-2 Inv-loop μ-loop
-returns-2 c = record { most = omega arith; before = c .before .loop .inv .1; outside = λ h. absurd (omega arith) }
+returns-2 c = search (needs, scanned-end)
 
 pub first-outside-spec : {M : Type 1} → statement M
 first-outside-spec =

@@ -14,10 +14,12 @@ squares-requires-2 : tie.Need-squares-requires-2
 squares-requires-2 c κs = search needs
 
 sub-if1 : tie.Need-sub-if1
-sub-if1 c = let s = c .before .before .before in squares-need (s .args .k) (s .args .z) (s .args .w) (s .pre .0) (s .pre .1) _ _ _ (c .before .before .power-of-two .ensures) (c .before .squares .ensures) (c .squares2 .ensures)
+sub-if1 c =
+    let s = c .before .before .before in
+    squares-need (s .args .k) (s .args .z) (s .args .w) (s .pre .0) (s .pre .1) _ _ _ (c .before .before .power-of-two .ensures) (c .before .squares .ensures) (c .squares2 .ensures)
 
 returns : tie.Need-returns
-returns c = let s = c .before .before .before .before in refutes (squares-differ (s .args .k) (s .args .z) (s .args .w) (s .pre .0) (s .pre .1) _ _ _ (c .before .before .before .power-of-two .ensures) (c .before .before .squares .ensures) (c .before .squares2 .ensures) (c .if1 .taken))
+returns c = refutes (search (needs, squares-differ))
 
 crosses-requires : tie.Need-crosses-requires
 crosses-requires c κs = search needs
@@ -26,13 +28,17 @@ crosses-requires-2 : tie.Need-crosses-requires-2
 crosses-requires-2 c κs = search needs
 
 sub-wanted : tie.Need-sub-wanted
-sub-wanted c = let s = c .before .before .before .before .before .before in crosses-need (s .args .k) (s .args .z) (s .args .w) (s .pre .0) (s .pre .1) _ _ (c .before .crosses .ensures) (c .crosses2 .ensures)
+sub-wanted c =
+    let d = c .before .before .before in
+    let s = d .before .before .before in
+    crosses-need (s .args .k) (s .args .z) (s .args .w) (s .pre .0) (s .pre .1) _ _ (c .before .crosses .ensures) (c .crosses2 .ensures)
 
 returns-2 : tie.Need-returns-2
 returns-2 c =
-    let s = c .before .before .before .before .before .before in
+    let d = c .before .before .before in
+    let s = d .before .before .before in
     crosses-decide (s .args .k) (s .args .z) (s .args .w) (s .pre .0) (s .pre .1) _ _ (c .before .crosses .ensures) (c .crosses2 .ensures)
-    (squares-agree (s .args .k) (s .args .z) (s .args .w) (s .pre .0) (s .pre .1) _ _ _ (c .before .before .before .before .before .power-of-two .ensures) (c .before .before .before .before .squares .ensures) (c .before .before .before .squares2 .ensures) (c .before .before .if1 .left))
+    (squares-agree (s .args .k) (s .args .z) (s .args .w) (s .pre .0) (s .pre .1) _ _ _ (d .before .before .power-of-two .ensures) (d .before .squares .ensures) (d .squares2 .ensures) (c .before .before .if1 .left))
 
 pub is-unitary-spec : {M : Type 1} → statement M
 is-unitary-spec =

@@ -1,5 +1,6 @@
 -- `unitary::DOmegaUnitary::halved` meets its contract: z and w are halved, and k falls by two.
-use Prim.Native.Nat.{_-_}
+use mathlib.Core.Path.{refl}
+use Rattle.unitary.specs.Triples.{by-parts}
 use borrow.Author.Needs.{needs}
 use Rattle.unitary.proofs.DOmegaUnitary.halved.Statement.{statement}
 use Rattle.unitary.proofs.DOmegaUnitary.halved.Tie as tie
@@ -14,7 +15,7 @@ sub-t8 : tie.Need-sub-t8
 sub-t8 c = search needs
 
 returns : tie.Need-returns
-returns c = let s = c .before .before .before .before in λ i. record { k = s .args .self .k - 2; n = s .args .self .n; z = c .before .halved .ensures i; w = c .halved2 .ensures i }
+returns c = by-parts refl refl (c .before .halved .ensures) (c .halved2 .ensures)
 
 pub halved-spec : {M : Type 1} → statement M
 halved-spec = tie.close (tie.spec halved-requires halved-requires-2 sub-t8 returns)

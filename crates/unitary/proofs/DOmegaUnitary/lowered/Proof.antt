@@ -1,6 +1,8 @@
 -- `unitary::DOmegaUnitary::lowered` meets its contract: z and w are divided, and k falls by one.
 use Prim.Native.Nat.{_-_}
 use native.Mathlib.Omega.{arith}
+use mathlib.Core.Path.{refl}
+use Rattle.unitary.specs.Triples.{by-parts}
 use borrow.Author.Needs.{needs}
 use Rattle.unitary.proofs.DOmegaUnitary.lowered.Statement.{statement}
 use Rattle.unitary.proofs.DOmegaUnitary.lowered.Tie as tie
@@ -15,7 +17,9 @@ sub-t8 : tie.Need-sub-t8
 sub-t8 c = search needs
 
 returns : tie.Need-returns
-returns c = let s = c .before .before .before .before in record { before = s .args .self .k - 1; is = omega arith; holds = λ i. record { k = s .args .self .k - 1; n = s .args .self .n; z = c .before .mul-by-inv-sqrt2 .ensures i; w = c .mul-by-inv-sqrt22 .ensures i } }
+returns c =
+    let z = c .before .mul-by-inv-sqrt2 .ensures in
+    record { before = c .before .before .before .before .args .self .k - 1; is = omega arith; holds = by-parts refl refl z (c .mul-by-inv-sqrt22 .ensures) }
 
 pub lowered-spec : {M : Type 1} → statement M
 lowered-spec =

@@ -1,7 +1,7 @@
 -- `unitary::DOmegaUnitary::mul_by_s_from_left` meets its contract: w goes by omega twice.
-use mathlib.Core.Path.{_∙_}
-use Prim.Native.Nat.{_+_, _%_}
+use mathlib.Core.Path.{refl, _∙_}
 use Rattle.ring.specs.Number.{quad}
+use Rattle.unitary.specs.Triples.{by-parts}
 use Rattle.unitary.specs.Acts.{small-turned, twice-turned}
 use borrow.Author.Needs.{needs}
 use Rattle.unitary.proofs.DOmegaUnitary.mul_by_s_from_left.Statement.{statement}
@@ -18,9 +18,9 @@ add-t8 c = search needs
 
 returns : tie.Need-returns
 returns c =
-    let s = c .before .before .before .before in
-    let e = c .mul-by-omega2 .ensures ∙ twice-turned (quad (s .args .self .w)) (c .before .mul-by-omega .ensures) in
-    λ i. record { k = s .args .self .k; n = (s .args .self .n + 2) % 8; z = quad (s .args .self .z); w = e i }
+    let w = quad (c .before .before .before .before .args .self .w) in
+    let e = c .mul-by-omega2 .ensures ∙ twice-turned w (c .before .mul-by-omega .ensures) in
+    by-parts refl refl refl e
 
 pub mul-by-s-from-left-spec : {M : Type 1} → statement M
 mul-by-s-from-left-spec =

@@ -1,6 +1,6 @@
 -- `unitary::DOmegaUnitary::mul_by_t_inv_power_from_left` meets its contract: w goes by omega to the power -m, and n with it.
-use Prim.Native.Nat.{_+_, _-_, _%_}
-use Rattle.ring.specs.Number.{quad}
+use mathlib.Core.Path.{refl}
+use Rattle.unitary.specs.Triples.{by-parts}
 use borrow.Author.Needs.{needs}
 use Rattle.unitary.proofs.DOmegaUnitary.mul_by_t_inv_power_from_left.Statement.{statement}
 use Rattle.unitary.proofs.DOmegaUnitary.mul_by_t_inv_power_from_left.Tie as tie
@@ -15,7 +15,7 @@ add-t9 : tie.Need-add-t9
 add-t9 c = search needs
 
 returns : tie.Need-returns
-returns c = let s = c .before .before .before in λ i. record { k = s .args .self .k; n = (s .args .self .n + (8 - s .args .m)) % 8; z = quad (s .args .self .z); w = c .mul-by-omega-inv-power .ensures i }
+returns c = by-parts refl refl refl (c .mul-by-omega-inv-power .ensures)
 
 pub mul-by-t-inv-power-from-left-spec : {M : Type 1} → statement M
 mul-by-t-inv-power-from-left-spec =

@@ -1,5 +1,6 @@
 -- `unitary::DOmegaUnitary::mul_by_w_from_left` meets its contract: each part is what the letter makes of it.
-use Prim.Native.Nat.{_+_, _%_}
+use mathlib.Core.Path.{refl}
+use Rattle.unitary.specs.Triples.{by-parts}
 use borrow.Author.Needs.{needs}
 use Rattle.unitary.proofs.DOmegaUnitary.mul_by_w_from_left.Statement.{statement}
 use Rattle.unitary.proofs.DOmegaUnitary.mul_by_w_from_left.Tie as tie
@@ -14,7 +15,7 @@ add-t8 : tie.Need-add-t8
 add-t8 c = search needs
 
 returns : tie.Need-returns
-returns c = let s = c .before .before .before .before in λ i. record { k = s .args .self .k; n = (s .args .self .n + 2) % 8; z = c .before .mul-by-omega .ensures i; w = c .mul-by-omega2 .ensures i }
+returns c = by-parts refl refl (c .before .mul-by-omega .ensures) (c .mul-by-omega2 .ensures)
 
 pub mul-by-w-from-left-spec : {M : Type 1} → statement M
 mul-by-w-from-left-spec =

@@ -1,8 +1,8 @@
 -- `unitary::DOmegaUnitary::reduce_denomexp` meets its contract. The loop keeps the matrix and the sizes; the measure is k.
-use mathlib.Core.Path.{refl, sym, _∙_}
+use mathlib.Core.Path.{refl}
 use Rattle.exact.specs.Matrices.Same.{Same-refl}
-use Rattle.unitary.specs.Triples.{triple}
-use Rattle.unitary.specs.Acts.{Lowering, lower-more, lower-less, lower-done, none-left, not-divisible}
+use Rattle.unitary.specs.Acts.{Lowering, lower-more, lower-less, lower-done, lower-none}
+use borrow.Author.Needs.{needs}
 use Rattle.unitary.proofs.DOmegaUnitary.reduce_denomexp.Statement.{statement}
 use Rattle.unitary.proofs.DOmegaUnitary.reduce_denomexp.Tie as tie
 
@@ -22,16 +22,16 @@ lowered-requires : tie.Need-lowered-requires Inv-loop μ-loop
 lowered-requires c κs = let i = c .before .before .before .before .loop .inv in (i .z-small, (i .w-small, c .before .before .if1 .taken))
 
 loop-less : tie.Need-loop-less Inv-loop μ-loop
-loop-less c = lower-less (c .before .before .before .before .before .loop .t) (c .lowered .result) (c .lowered .ensures)
+loop-less c = search (needs, lower-less)
 
 loop-again : tie.Need-loop-again Inv-loop μ-loop
-loop-again c = lower-more (c .before .before .before .before .before .loop .inv) (sym (c .before .before .divisible .ensures) ∙ c .before .if2 .taken) (c .lowered .ensures)
+loop-again c = search (needs, lower-more)
 
 returns : tie.Need-returns Inv-loop μ-loop
-returns c = lower-done (triple (c .before .before .before .before .before .before .before .args .self)) (c .before .before .before .before .loop .inv) refl (not-divisible (c .before .before .before .before .loop .t) (sym (c .before .divisible .ensures) ∙ c .if2 .left))
+returns c = search (needs, lower-done)
 
 returns-2 : tie.Need-returns-2 Inv-loop μ-loop
-returns-2 c = lower-done (triple (c .before .before .before .before .before .args .self)) (c .before .before .loop .inv) refl (none-left (c .before .before .loop .t) (c .if1 .left))
+returns-2 c = search (needs, lower-none)
 
 pub reduce-denomexp-spec : {M : Type 1} → statement M
 reduce-denomexp-spec =
