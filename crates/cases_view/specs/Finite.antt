@@ -5,10 +5,15 @@ use lib.Dec.{T}
 use lib.IntN.{ℤ}
 use lib.Ieee.{Float, nan, inf, fin, isNan, ofBits}
 use lib.Ieee.Exact.{HasValue}
+use Rattle.exact.specs.Meaning.Triple.{Triple}
+use Rattle.exact.specs.Meaning.Refusals.{checks}
+use Rattle.exact.specs.Outcomes.Ladder.{always}
+use Rattle.ring.specs.Number.{quad}
 use Rattle.ring.specs.declared.ZOmega.{ZOmega}
+use Rattle.unitary.specs.Triples.{given}
 use Rattle.view.specs.Meaning.Surd.{Surd}
 use Rattle.view.specs.Meaning.Near.{Shows}
-use Rattle.view.specs.Meaning.Outcome.{nil, nothing, ViewOutcome}
+use Rattle.view.specs.Meaning.Outcome.{nil, nothing, refused, Views, ViewOutcome}
 use Rattle.view.specs.declared.matrix.View.{View}
 use Rattle.view.specs.declared.Answer.{Answer}
 
@@ -38,17 +43,20 @@ zero = tt
 zeros : Finite nothing
 zeros = record { re00 = zero; im00 = zero; re01 = zero; im01 = zero; re10 = zero; im10 = zero; re11 = zero; im11 = zero }
 
-pub finite : {k : ℤ} {n : ℕ} {z w : ZOmega} {o : Answer} → ViewOutcome k n z w o → Finite (o .view)
-finite (ViewOutcome.exponent f) = zeros
-finite (ViewOutcome.coefficient e f) = zeros
-finite (ViewOutcome.unitary e c f) = zeros
-finite (ViewOutcome.accepted e c u v h) = record {
-  re00 = shown (h .p .re-shown);
-  im00 = shown (h .p .im-shown);
-  re01 = shown (h .q .re-shown);
-  im01 = shown (h .q .im-shown);
-  re10 = shown (h .r .re-shown);
-  im10 = shown (h .r .im-shown);
-  re11 = shown (h .s .re-shown);
-  im11 = shown (h .s .im-shown);
-}
+viewed : {t : Triple} (o : Answer) → Views t o → Finite (o .view)
+viewed o h =
+    let v = h .viewed in
+    record {
+      re00 = shown (v .p .re-shown);
+      im00 = shown (v .p .im-shown);
+      re01 = shown (v .q .re-shown);
+      im01 = shown (v .q .im-shown);
+      re10 = shown (v .r .re-shown);
+      im10 = shown (v .r .im-shown);
+      re11 = shown (v .s .re-shown);
+      im11 = shown (v .s .im-shown);
+    }
+
+pub finite : (k : ℤ) (n : ℕ) (z w : ZOmega) (o : Answer) → ViewOutcome k n z w o → Finite (o .view)
+finite k n z w =
+    always refused (Views (given k n z w)) (λ (o : Answer). Finite (o .view)) (λ n p. zeros) viewed (checks k (quad z) (quad w))

@@ -95,19 +95,21 @@ module _ {k : ℤ} {z w : ZOmega} (fits : SFits w64 k) {r : ℕ} (checked : Chec
       let h = taken e .coefficients-in in
       (record { sized = sized-le (omega arith) (h .z-in) }, record { sized = sized-le (omega arith) (h .w-in) })
 
-  -- refused as the check says, whatever refusals come behind it
-  pub refused-as : {R : Type 0} (refused : ℕ → ℕ → R) (Answer : R → Type 0) (more : Meaning.Refusals) → (r ≡ 0 → ⊥)
-      → Meaning.Outcome refused Answer (checks k (quad z) (quad w) also more) (refused r 0)
-  refused-as refused Answer more n =
-      check-refused refused Answer (checks k (quad z) (quad w)) more (checks-placeless k (quad z) (quad w)) r of-k n
+  -- what comes behind the check: refused as it says, or passed on
+  module _ {R : Type 0} (refused : ℕ → ℕ → R) (Answer : R → Type 0) (more : Meaning.Refusals) where
+    pub refused-as : (r ≡ 0 → ⊥) → Meaning.Outcome refused Answer (checks k (quad z) (quad w) also more) (refused r 0)
+    refused-as n = check-refused refused Answer (checks k (quad z) (quad w)) more (checks-placeless k (quad z) (quad w)) r of-k n
+
+    pub taken-as : r ≡ 0 → (o : R) → Meaning.Outcome refused Answer more o → Meaning.Outcome refused Answer (checks k (quad z) (quad w) also more) o
+    taken-as e = pass refused Answer (checks k (quad z) (quad w)) more (taken-checks k (quad z) (quad w) (taken e))
 
 -- ---- job 1
 module _ (k : ℤ) (n : ℕ) (z w : ZOmega) (fits : SFits w64 k) (r : ℕ) (checked : CheckOutcome (held w64 k) z w r) where
   pub reduce-refused : (r ≡ 0 → ⊥) → (m : DOmegaUnitary) → m ≡ none → ReduceOutcome k n z w (record { refusal = r; matrix = m })
   reduce-refused f m e = rw e (refused-as fits checked refused (Reduces (entries (given k n z w))) Meaning.none f)
 
-  pub reduce-taken : r ≡ 0 → (t : DOmegaUnitary) → Answers (entries (given (held w64 k) n z w)) (triple t) → ReduceOutcome k n z w (record { refusal = 0; matrix = t })
+  pub reduce-taken : r ≡ 0 → (t : DOmegaUnitary) → Answers (entries (given (held w64 k) n z w)) (triple t)
+      → ReduceOutcome k n z w (record { refusal = 0; matrix = t })
   reduce-taken e t a =
-      pass refused (Reduces (entries (given k n z w))) (checks k (quad z) (quad w)) Meaning.none (taken-checks k (quad z) (quad w) (taken fits checked e))
-      (record { refusal = 0; matrix = t })
+      taken-as fits checked refused (Reduces (entries (given k n z w))) Meaning.none e (record { refusal = 0; matrix = t })
       (record { taken = refl; answer = subst (λ (y : ℤ). Answers (entries (given y n z w)) (triple t)) (toZ-ofZ fits) a })

@@ -1,32 +1,35 @@
--- From job 1's check to job 7's outcome. Assumes nothing.
+-- From the check to job 7's outcome. Assumes nothing.
 use mathlib.Core.Path.{_≡_, refl, subst}
-use Prim.Native.Nat.{ℕ}
-use lib.IntN.{ℤ}
+use Prim.Native.Nat.{ℕ, _≤_}
+use lib.Dec.{T}
+use lib.IntN.{ℤ, natAbs}
+use lib.Signed.{nonNeg}
 use mir.Facts.{toZ-ofZ}
-use mir.Syntax.{w64}
-use mir.Val.{SFits}
+use mir.Syntax.{w32, w64}
+use mir.Val.{SFits, Fits}
+use Rattle.exact.specs.Meaning.Outcome.{none}
 use Rattle.exact.specs.Meaning.Triple.{Unitary}
 use Rattle.exact.specs.Whole.Machine.{held}
 use Rattle.ring.specs.declared.ZOmega.{ZOmega}
 use Rattle.unitary.specs.Triples.{given}
-use Rattle.unitary.specs.Checks.{CheckOutcome, Taken}
-use Rattle.view.specs.Meaning.Outcome.{Viewed, nothing, ViewOutcome}
+use Rattle.unitary.specs.Checks.{CheckOutcome, exponent-size}
+use Rattle.unitary.specs.Checked.{taken, refused-as, taken-as}
+use Rattle.view.specs.Meaning.Outcome.{Viewed, nothing, refused, Views, ViewOutcome}
 use Rattle.view.specs.declared.matrix.View.{View}
-use Rattle.view.specs.declared.Answer.{Answer}
+use Rattle.view.proofs.Numbers.{exponent-casts}
 
-pub refused : {k : ℤ} {n : ℕ} {z w : ZOmega} (r : ℕ) → CheckOutcome k z w r → (r ≡ 0 → ⊥) → ViewOutcome k n z w (record { refusal = r; view = nothing })
-refused r (CheckOutcome.exponent f) h = ViewOutcome.exponent f
-refused r (CheckOutcome.coefficient e f) h = ViewOutcome.coefficient e f
-refused r (CheckOutcome.unitary e c f) h = ViewOutcome.unitary e c (λ u. f (record { squares-sum = u .squares-sum; crosses-sum = u .crosses-sum }))
-refused r (CheckOutcome.accepted e c u) h = absurd (h refl)
+module _ (k : ℤ) (n : ℕ) (z w : ZOmega) (fits : SFits w64 k) (r : ℕ) (checked : CheckOutcome (held w64 k) z w r) where
+  pub view-refused : (r ≡ 0 → ⊥) → (v : View) → v ≡ nothing → ViewOutcome k n z w (record { refusal = r; view = v })
+  view-refused f v e = rw e (refused-as fits checked refused (Views (given k n z w)) none f)
 
--- unitary does not ask for n
-pub unitary-given : {k : ℤ} {z w : ZOmega} (n : ℕ) → Taken k z w → Unitary (given k n z w)
-unitary-given n t = record { squares-sum = t .unitary-there .squares-sum; crosses-sum = t .unitary-there .crosses-sum }
+  module _ (yes : r ≡ 0) where
+    pub view-cast : T (nonNeg (held w64 k)) × Fits w32 (natAbs (held w64 k))
+    view-cast = rw (toZ-ofZ fits) (exponent-casts k (taken fits checked yes .exponent-in))
 
-pub accepted : {k : ℤ} {n : ℕ} {z w : ZOmega} → Taken k z w → (v : View) → Viewed (given k n z w) v → ViewOutcome k n z w (record { refusal = 0; view = v })
-accepted {k} {n} {z} {w} t v h = ViewOutcome.accepted (t .exponent-in) (t .coefficients-in) (unitary-given n t) v h
+    pub view-unitary : (natAbs (held w64 k) ≤ 60) × Unitary (given (held w64 k) n z w)
+    view-unitary = let t = taken fits checked yes in rw (toZ-ofZ fits) (exponent-size k (t .exponent-in), t .unitary-there n)
 
--- the exponent as the machine reads it back is the one that was handed in
-pub handed : {k : ℤ} {n : ℕ} {z w : ZOmega} {o : Answer} → SFits w64 k → ViewOutcome (held w64 k) n z w o → ViewOutcome k n z w o
-handed {k} {n} {z} {w} {o} f h = subst (λ j. ViewOutcome j n z w o) (toZ-ofZ f) h
+    pub view-taken : (v : View) → Viewed (given (held w64 k) n z w) v → ViewOutcome k n z w (record { refusal = 0; view = v })
+    view-taken v h =
+        taken-as fits checked refused (Views (given k n z w)) none yes (record { refusal = 0; view = v })
+        (record { taken = refl; viewed = subst (λ (y : ℤ). Viewed (given y n z w) v) (toZ-ofZ fits) h })

@@ -12,7 +12,7 @@ use Rattle.exact.specs.Meaning.Number.{Ω, ints, omegas, mulQ, omega′, omega^
 use Rattle.exact.specs.Algebra.Solver.{_⊗_, ring₃}
 use Rattle.exact.specs.Algebra.Omega.{omegas-laws}
 use Rattle.exact.specs.Algebra.OmegaPower.{omega^-mod}
-use Rattle.unitary.specs.Outcomes.{InExponents}
+use Rattle.exact.specs.Meaning.Refusals.{InExponents}
 use Rattle.unitary.specs.Checks.{exponent-size}
 
 -- a negative, as the machine has it

@@ -29,7 +29,7 @@ text-requires-3 : tie.Need-text-requires-3
 text-requires-3 c κs = search needs
 
 lines-requires : tie.Need-lines-requires
-lines-requires c κs = finite (c .before .before .before .before .before .before .before .before .view .ensures)
+lines-requires c κs = search (needs, finite)
 
 returns : tie.Need-returns
 returns c = search needs

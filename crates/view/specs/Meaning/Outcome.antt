@@ -1,14 +1,17 @@
 -- Job 7's outcome for every input: refusals 3, 4 and 5 in that order, each exactly when document 01 says, with eight zeros; or the view of the
 -- triple's matrix: the real and the imaginary part of each entry, row by row.
+use mathlib.Core.Path.{_≡_}
 use Prim.Native.Nat.{ℕ}
 use lib.IntN.{ℤ}
 use lib.Ieee.{Float, binary64, ofBits}
 use Rattle.exact.specs.Meaning.Number.{Ω}
-use Rattle.exact.specs.Meaning.Triple.{Triple, entries, Unitary}
-use Rattle.exact.specs.Meaning.Limits as Limits
+use Rattle.exact.specs.Meaning.Triple.{Triple, entries}
+use Rattle.exact.specs.Meaning.Limits.{Accepted}
+use Rattle.exact.specs.Meaning.Outcome.{Outcome}
+use Rattle.exact.specs.Meaning.Refusals.{checks}
+use Rattle.ring.specs.Number.{quad}
 use Rattle.ring.specs.declared.ZOmega.{ZOmega}
 use Rattle.unitary.specs.Triples.{given}
-use Rattle.unitary.specs.Outcomes.{InExponents, InCoefficients}
 use Rattle.view.specs.Meaning.Surd.{real, imaginary}
 use Rattle.view.specs.Meaning.Near.{Shows}
 use Rattle.view.specs.declared.matrix.View.{View}
@@ -35,11 +38,12 @@ nil = ofBits binary64 0
 abbrev pub nothing : View
 nothing = record { re00 = nil; im00 = nil; re01 = nil; im01 = nil; re10 = nil; im10 = nil; re11 = nil; im11 = nil }
 
-abbrev refused : ℕ → Answer
-refused r = record { refusal = r; view = nothing }
+abbrev pub refused : ℕ → ℕ → Answer
+refused n p = record { refusal = n; view = nothing }
 
-pub data ViewOutcome (k : ℤ) (n : ℕ) (z w : ZOmega) : Answer → Type 0 where
-  exponent : (InExponents k → ⊥) → ViewOutcome k n z w (refused Limits.Exponent)
-  coefficient : InExponents k → (InCoefficients z w → ⊥) → ViewOutcome k n z w (refused Limits.Coefficient)
-  unitary : InExponents k → InCoefficients z w → (Unitary (given k n z w) → ⊥) → ViewOutcome k n z w (refused Limits.Unitary)
-  accepted : InExponents k → InCoefficients z w → Unitary (given k n z w) → (v : View) → Viewed (given k n z w) v → ViewOutcome k n z w (record { refusal = Limits.Accepted; view = v })
+pub record Views (t : Triple) (r : Answer) : Type 0 where
+  pub taken : r .refusal ≡ Accepted
+  pub viewed : Viewed t (r .view)
+
+abbrev pub ViewOutcome : ℤ → ℕ → ZOmega → ZOmega → Answer → Type 0
+ViewOutcome k n z w r = Outcome refused (Views (given k n z w)) (checks k (quad z) (quad w)) r

@@ -63,12 +63,14 @@ parts-requires-2 c κs =
 
 parts-requires-3 : tie.Need-parts-requires-3
 parts-requires-3 c κs =
-    let d = c .before .before .before .before .before .before .before in
+    let b = c .before .before .before .before in
+    let d = b .before .before .before in
     (d .pre .0, w-size (d .pre .1))
 
 parts-requires-4 : tie.Need-parts-requires-4
 parts-requires-4 c κs =
-    let b = c .before .before .before .before .before .before in
+    let p = c .before .before .before in
+    let b = p .before .before .before in
     let d = b .before .before in
     let m = 2 ^ d .args .k in
     let y = quad (b .before .conj .result) in (

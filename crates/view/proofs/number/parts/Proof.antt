@@ -43,7 +43,8 @@ over-requires-2 c κs =
 
 returns : tie.Need-returns
 returns c =
-    let d = c .before .before .before .before .before .before in
+    let b = c .before .before .before in
+    let d = b .before .before .before in
     record {
       re-shown = subst (λ q. Shows q (c .before .over .result)) (real-handed (d .args .k) (d .args .x) (d .pre)) (c .before .over .ensures);
       im-shown = subst (λ q. Shows q (c .over2 .result)) (imaginary-handed (d .args .k) (d .args .x) (d .pre)) (c .over2 .ensures);
