@@ -2,3 +2,4 @@
 pub mod Ladder
 pub mod Places
 pub mod Checked
+pub mod Lent

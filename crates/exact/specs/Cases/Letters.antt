@@ -2,8 +2,9 @@
 use mathlib.Core.Path.{_≡_, refl, sym, _∙_, ap, ap₂}
 use mathlib.Core.Bool.{Bool, true, false, cond, _&&_}
 use mathlib.Core.List.{List, [], _∷_}
-use Prim.Native.Nat.{ℕ}
+use Prim.Native.Nat.{ℕ, suc}
 use lib.Dec.{T, eqb, eqb→eq}
+use lib.ListN.{length}
 use mir.Facts.{and-yes}
 use Rattle.exact.specs.Meaning.Word.{Letter, I, H, S, X, W, T′, byte, bytes}
 
@@ -32,6 +33,10 @@ lettersOf-bytes (l ∷ u) = ap₂ _∷_ (letterOf-byte l) (lettersOf-bytes u)
 
 pub bytes-inj : (u v : List Letter) → bytes u ≡ bytes v → u ≡ v
 bytes-inj u v e = sym (lettersOf-bytes u) ∙ ap lettersOf e ∙ lettersOf-bytes v
+
+pub bytes-length : (u : List Letter) → length (bytes u) ≡ length u
+bytes-length [] = refl
+bytes-length (l ∷ u) = ap suc (bytes-length u)
 
 -- ---- the tests
 abbrev pub eqLetter : Letter → Letter → Bool

@@ -4,7 +4,8 @@ use mathlib.Core.Path.{_≡_}
 use mathlib.Core.Bool.{Bool, true, false}
 use mathlib.Core.List.{List, [], _∷_, _++_}
 use Prim.Native.Nat.{ℕ, zero, suc, _≤_}
-use Rattle.exact.specs.Meaning.Word.{Letter, I, H, S, X, W, T′}
+use Rattle.exact.specs.Meaning.Matrix.{Matrix, Same}
+use Rattle.exact.specs.Meaning.Word.{Letter, I, H, S, X, W, T′, word}
 
 pub data Syllable : Type 0 where
   HT SHT : Syllable
@@ -60,6 +61,11 @@ pub record Normal (u : List Letter) : Type 0 where
   pub shape : Shape
   pub fits : Fits (shape .tail)
   pub spelled : spell shape ≡ u
+
+-- a normal word with the matrix m
+pub record NormalOf (m : Matrix) (u : List Letter) : Type 0 where
+  pub normal : Normal u
+  pub same : Same m (word u)
 
 -- ---- less the final W letters
 -- a letter before what is left of the letters after it

@@ -43,6 +43,12 @@ module _ {R : Type 0} (refused : ℕ → ℕ → R) (Answer : R → Type 0) wher
   answered (f then fs) h r (Rung.given p k e) = absurd (h .0 p k)
   answered (f then fs) h r (Rung.passed n x) = answered fs (h .1) r x
 
+  -- and what comes behind refusals that are passed stands alone
+  pub skip : (fs gs : Refusals) → Passed fs → (r : R) → Outcome refused Answer (fs also gs) r → Outcome refused Answer gs r
+  skip none gs h r x = x
+  skip (f then fs) gs h r (Rung.given p k e) = absurd (h .0 p k)
+  skip (f then fs) gs h r (Rung.passed n x) = skip fs gs (h .1) r x
+
   pub pass : (fs gs : Refusals) → Passed fs → (r : R) → Outcome refused Answer gs r → Outcome refused Answer (fs also gs) r
   pass none gs h r x = x
   pass (f then fs) gs h r x = Rung.passed (h .0) (pass fs gs (h .1) r x)

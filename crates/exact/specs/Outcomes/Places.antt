@@ -1,14 +1,17 @@
--- Each refusal has at most one place, and an answer that is the only one is written in one way. Assumes nothing.
-use mathlib.Core.Path.{_≡_, sym, _∙_, ap, subst}
+-- Each refusal has at most one place, and a matrix one normal word. Assumes nothing.
+use mathlib.Core.Path.{_≡_, sym, _∙_, subst}
 use mathlib.Core.Bool.{Bool}
 use mathlib.Core.List.{List}
 use Prim.Native.Nat.{ℕ, _<_}
 use native.Mathlib.Omega.{arith}
 use Rattle.exact.specs.Meaning.Word.{Letter, FirstOutside, Spelled}
 use Rattle.exact.specs.Meaning.Endings.{Shallow, Deep, DeepAt}
-use Rattle.exact.specs.Meaning.Lent.{over, Writes}
+use Rattle.exact.specs.Meaning.Matrix.{Matrix}
+use Rattle.exact.specs.Meaning.Normal.{NormalOf}
 use Rattle.exact.specs.Cases.Letters.{bytes-inj}
+use Rattle.exact.specs.Matrices.Same.{Same-sym, Same-trans}
 use Rattle.exact.specs.Matrices.Least.{least-unique}
+use Rattle.exact.specs.Unique.Normal.{unique}
 use Rattle.exact.specs.Outcomes.Ladder.{Only}
 
 pub one-plain : {C : Type 0} (p q : ℕ) → C × (p ≡ 0) → C × (q ≡ 0) → p ≡ q
@@ -38,7 +41,6 @@ one-end u p q a b = omega (arith, below a b, below b a)
 pub one-deep : {w : List ℕ} → Only (Spelled DeepAt w)
 one-deep {w} = one-spelled DeepAt one-end w
 
--- ---- an answer in lent memory
-module _ {A H : Type 0} (text : A → List ℕ) (counts : A → H) (Answer : A → Type 0) (old : List ℕ) (one : Only Answer) where
-  pub one-written : Only (Writes text counts Answer old)
-  one-written r s x y = x .is ∙ ap (λ v. record { handed = counts v; buffer = over (text v) old }) (one (x .v) (y .v) (x .answer) (y .answer)) ∙ sym (y .is)
+-- ---- the normal word of a matrix
+pub one-normal : (m : Matrix) → Only (NormalOf m)
+one-normal m u v a b = unique (a .normal) (b .normal) (Same-trans (Same-sym (a .same)) (b .same))
