@@ -6,12 +6,15 @@ use Prim.Native.Nat.{ℕ, _≤_}
 use native.Mathlib.Omega.{arith}
 use lib.ListN.{length, drop, length-append}
 use Rattle.exact.specs.Meaning.Outcome.{Refusals, none, _then_, Rung, Outcome}
-use Rattle.exact.specs.Meaning.Lent.{Lent, over, untouched, Writes}
+use Rattle.exact.specs.Meaning.Lent.{Lent, lent, over, untouched, Writes}
 use Rattle.exact.specs.Meaning.Refusals.{TooMany, room}
 use Rattle.exact.specs.Outcomes.Ladder.{Only, always}
 
-abbrev pub lent : {H : Type 0} → H → List ℕ → Lent H
-lent h s = record { handed = h; buffer = s }
+pub handed-same : {H : Type 0} {r s : H} {x y : List ℕ} → lent r x ≡ lent s y → r ≡ s
+handed-same {H} e = ap (λ (l : Lent H). l .handed) e
+
+pub bytes-same : {H : Type 0} {r s : H} {x y : List ℕ} → lent r x ≡ lent s y → x ≡ y
+bytes-same {H} e = ap (λ (l : Lent H). l .buffer) e
 
 module _ {A H : Type 0} (text : A → List ℕ) (counts : A → H) (Answer : A → Type 0) (old : List ℕ) where
   pub one-written : Only Answer → Only (Writes text counts Answer old)
