@@ -26,11 +26,11 @@ use Rattle.normal_form.specs.declared.reading.Syllable.{Syllable}
 use Rattle.normal_form.specs.declared.writing.Ending.{Ending}
 use Rattle.clifford.specs.Cliffords.{splitC}
 use Rattle.normal_form.specs.Readings.{State, syllable, prefix, prefix-tees, start, run, shape, spelled, normal, normal-of}
-use Rattle.normal_form.specs.Held.{codes, Holds, Readable, count-is, count-few, count-within, bytes-most}
+use Rattle.normal_form.specs.Held.{codes, Holds, Readable, count-is, count-few, bytes-most}
 use Rattle.normal_form.specs.Steps.{tailOf}
 use Rattle.normal_form.specs.Syllables.{syllableNumber, syllableWord, syllableOf, named}
-use Rattle.normal_form.specs.Outcome.{Normalises, Shortens, normalises-single, shortens-single, refused, counts, WordOutcome, RoomOutcome}
-use Rattle.normal_form.specs.Outcome.{outside-at, past-letters, no-room, written-whole, the-only}
+use Rattle.normal_form.specs.Outcome.{Normalises, Shortens, normalises-single, shortens-single, refused, counts}
+use Rattle.normal_form.specs.Outcome.{WordOutcome, RoomOutcome, outside-at, past-letters, no-room, written-whole, the-only}
 use Rattle.normal_form.specs.Letters.{Inside, Reads, bytes-back, none-outside}
 use Rattle.normal_form.specs.Put.{Put, put-more, put-length}
 use Rattle.normal_form.specs.Endings.{endWord, endSize, endingOf, Ended, end-length, end-tees, end-whole, textOf, text-less}

@@ -1,5 +1,5 @@
--- What jobs 3 and 5 promise: document 01's refusals in their order, or the answer in the lent bytes; that two allowed outcomes are equal; and how each
--- outcome is reached. Assumes nothing.
+-- What jobs 3 and 5 promise: document 01's refusals in their order, or the answer in the lent bytes; that two allowed outcomes are equal;
+-- and how each is reached. Assumes nothing.
 use mathlib.Core.Path.{_≡_, refl, sym, _∙_, ap, ap₂, subst}
 use mathlib.Core.List.{List}
 use Prim.Native.Nat.{ℕ, _<_, _≤_}
@@ -107,7 +107,8 @@ module _ (v : List Gate) (old : List ℕ) (r : Written) where
   pub no-room : length old < length (bytes v) → r ≡ refused Room 0 → RoomOutcome (λ x. x ≡ v) old r old
   no-room l e = Rung.given 0 (record { v = v; answer = refl; more = l }, refl) (stays old e)
 
-  pub written-whole : (new : List ℕ) → length (bytes v) ≤ length old → r ≡ counts v → new ≡ over (bytes v) old → RoomOutcome (λ x. x ≡ v) old r new
+  pub written-whole : (new : List ℕ) → length (bytes v) ≤ length old → r ≡ counts v → new ≡ over (bytes v) old
+      → RoomOutcome (λ x. x ≡ v) old r new
   written-whole new l e f =
       Rung.passed (λ p h. omega (arith, h .0 .more, ap (λ (x : List Gate). length (bytes x)) (h .0 .answer)))
       (record { v = v; answer = refl; is = ap₂ lent e f })

@@ -1,5 +1,5 @@
--- What follows from the outcomes of jobs 3 and 5: they are unique, a normal word always exists and has the fewest T letters, document 01's table of
--- cases, and that no useless program meets them. Assumes nothing.
+-- What follows from the outcomes of jobs 3 and 5: they are unique, a normal word always exists and has the fewest T letters, document 01's
+-- table of cases, and that no useless program meets them. Assumes nothing.
 use mathlib.Core.Path.{_≡_, refl, sym, _∙_, ap, subst}
 use mathlib.Core.Bool.{Bool, true, _&&_}
 use mathlib.Core.List.{List, [], _∷_, _++_}
@@ -21,9 +21,9 @@ use Rattle.exact.specs.Cases.Letters.{bytes-inj}
 use Rattle.exact.specs.Cases.NormalTest.{normalTest, normal-by}
 use Rattle.exact.specs.Cases.Table.{Row, Each, cases, Normalised, all-cases}
 use Rattle.normal_form.specs.declared.Written.{Written}
-use Rattle.normal_form.specs.Outcome.{Normalises, Shortens, refused, counts, lent, wordRefusals, WordOutcome, NormaliseOutcome, PhaseFreeOutcome}
-use Rattle.normal_form.specs.Outcome.{normalises-single, shortens-single, outcome-unique, handed-same, bytes-same}
-use Rattle.normal_form.specs.Outcome.{RoomOutcome, past-letters, no-room, written-whole, the-only}
+use Rattle.normal_form.specs.Outcome.{Normalises, Shortens, normalises-single, shortens-single, refused, counts, lent}
+use Rattle.normal_form.specs.Outcome.{wordRefusals, WordOutcome, NormaliseOutcome, PhaseFreeOutcome, RoomOutcome}
+use Rattle.normal_form.specs.Outcome.{outcome-unique, handed-same, bytes-same, past-letters, no-room, written-whole, the-only}
 use Rattle.normal_form.specs.Readings.{start, run}
 use Rattle.normal_form.specs.Endings.{textOf}
 use Rattle.normal_form.specs.Letters.{Inside, none-outside}
@@ -71,20 +71,31 @@ spells-by (l ∷ u) t (suc i) h = spells-by u (and-yes (job3 l) (allowed u) t .1
 abbrev short : List Letter → Bool
 short u = allowed u && leb (length (bytes u)) longest
 
--- the answer v to such a word u: what is handed back where it fits, and where it does not
+-- the answer v to such a word u: what is handed back, and nothing else, where it fits and where it does not
 module _ (Answer : List Letter → List Letter → Type 0) (one : (u : List Letter) → Only (Answer u)) (u v : List Letter) (old : List ℕ)
     (t : T (short u)) (a : Answer u v) where
+  answer-spelled : Spelled Answer (bytes u) v
+  answer-spelled = record { letters = u; spelled = refl; holds = a }
+
   by-room : (r : Written) (new : List ℕ) → RoomOutcome (λ x. x ≡ v) old r new → WordOutcome Answer (bytes u) old r new
   by-room r new o =
       let s = and-yes (allowed u) (leb (length (bytes u)) longest) t in
       past-letters Answer (bytes u) old r new (leb→le (length (bytes u)) longest (s .1)) (none-outside (bytes u) (spells-by u (s .0)))
-      (the-only (Spelled Answer (bytes u)) (one-spelled Answer one (bytes u)) v (record { letters = u; spelled = refl; holds = a }) old r new o)
+      (the-only (Spelled Answer (bytes u)) (one-spelled Answer one (bytes u)) v answer-spelled old r new o)
+
+  refused-there : length old < length (bytes v) → WordOutcome Answer (bytes u) old (refused Room 0) old
+  refused-there l = by-room (refused Room 0) old (no-room v old (refused Room 0) l refl)
 
   pub fits : length (bytes v) ≤ length old → WordOutcome Answer (bytes u) old (counts v) (over (bytes v) old)
   fits l = by-room (counts v) (over (bytes v) old) (written-whole v old (counts v) (over (bytes v) old) l refl refl)
 
-  pub fits-not : length old < length (bytes v) → WordOutcome Answer (bytes u) old (refused Room 0) old
-  fits-not l = by-room (refused Room 0) old (no-room v old (refused Room 0) l refl)
+  module _ (r : Written) (new : List ℕ) where
+    pub only-fits : length (bytes v) ≤ length old → WordOutcome Answer (bytes u) old r new
+        → lent r new ≡ lent (counts v) (over (bytes v) old)
+    only-fits l o = outcome-unique one (bytes u) old r new (counts v) (over (bytes v) old) o (fits l)
+
+    pub only-refused : length old < length (bytes v) → WordOutcome Answer (bytes u) old r new → lent r new ≡ lent (refused Room 0) old
+    only-refused l o = outcome-unique one (bytes u) old r new (refused Room 0) old o (refused-there l)
 
 -- ---- document 01's cases: the outcome of job 3 at each left side is the right side, in a buffer with room for it
 pub record CaseMet (r : Row) : Type 0 where
@@ -107,14 +118,6 @@ unfolding cases
 cases-met = each-met cases all-cases tt
 
 -- ---- useless programs, each refuted at an input
--- a program's answer for a word, where the right answer v fits, is v
-module _ (u v : List Letter) (old : List ℕ) (t : T (short u)) (l : length (bytes v) ≤ length old) (r : Written) (new : List ℕ) where
-  pub job3-only : Normalises u v → NormaliseOutcome (bytes u) old r new → lent r new ≡ lent (counts v) (over (bytes v) old)
-  job3-only a o = normalise-unique (bytes u) old r new (counts v) (over (bytes v) old) o (fits Normalises normalises-single u v old t a l)
-
-  pub job5-only : Shortens u v → PhaseFreeOutcome (bytes u) old r new → lent r new ≡ lent (counts v) (over (bytes v) old)
-  job5-only a o = phase-free-unique (bytes u) old r new (counts v) (over (bytes v) old) o (fits Shortens shortens-single u v old t a l)
-
 normalised : (u v : List Letter) → T (normalTest v && sameTest (word u) (word v)) → Normalises u v
 normalised u v t =
     let s = and-yes (normalTest v) (sameTest (word u) (word v)) t in
@@ -124,6 +127,18 @@ shortened : (u v x : List Letter) → T (normalTest v && sameTest (word u) (word
 shortened u v x t e =
     let a = normalised u v t in
     record { whole = v; phase-free = record { normal = a .normal; less = e }; same = a .same }
+
+-- a program's answer for a word u, where the right answer v fits, is v
+module _ (u v : List Letter) (old : List ℕ) (t : T (short u)) (l : length (bytes v) ≤ length old) {r : Written} {new : List ℕ} where
+  pub job3-only : Normalises u v → NormaliseOutcome (bytes u) old r new → lent r new ≡ lent (counts v) (over (bytes v) old)
+  job3-only a = only-fits Normalises normalises-single u v old t a r new l
+
+  pub job5-only : Shortens u v → PhaseFreeOutcome (bytes u) old r new → lent r new ≡ lent (counts v) (over (bytes v) old)
+  job5-only a = only-fits Shortens shortens-single u v old t a r new l
+
+-- so its first byte is v's
+first-same : {r s : Written} {x y : List ℕ} → lent r x ≡ lent s y → getD x 0 0 ≡ getD y 0 0
+first-same e = ap (λ (l : List ℕ). getD l 0 0) (bytes-same e)
 
 -- the inputs
 abbrev pub none : List Letter
@@ -146,42 +161,33 @@ dots (suc n) = 46 ∷ dots n
 -- ---- refuses all
 pub refuses-all-3 : (r : Written) (new : List ℕ) → NormaliseOutcome [] (dots 1) r new → r .refusal ≡ 0
 refuses-all-3 r new o =
-    ap (λ (x : Written). x .refusal) (handed-same (job3-only none (I ∷ []) (dots 1) tt (omega arith) r new (normalised none (I ∷ []) tt) o))
+    let a = normalised none (I ∷ []) tt in
+    ap (λ (x : Written). x .refusal) (handed-same (job3-only none (I ∷ []) (dots 1) tt (omega arith) a o))
 
 pub refuses-all-5 : (r : Written) (new : List ℕ) → PhaseFreeOutcome [] (dots 1) r new → r .refusal ≡ 0
 refuses-all-5 r new o =
-    ap (λ (x : Written). x .refusal)
-    (handed-same (job5-only none (I ∷ []) (dots 1) tt (omega arith) r new (shortened none (I ∷ []) (I ∷ []) tt refl) o))
+    let a = shortened none (I ∷ []) (I ∷ []) tt refl in
+    ap (λ (x : Written). x .refusal) (handed-same (job5-only none (I ∷ []) (dots 1) tt (omega arith) a o))
 
--- two first bytes that differ
-differ : {r s : Written} {x y : List ℕ} (m n : ℕ) → lent r x ≡ lent s y → getD x 0 0 ≡ m → getD y 0 0 ≡ n → (m ≡ n → ⊥) → ⊥
-differ m n e f g h = h (sym f ∙ ap (λ (l : List ℕ). getD l 0 0) (bytes-same e) ∙ g)
-
--- the word T's answers
+-- ---- always I
 T-normalised : Normalises one-T (T′ ∷ I ∷ [])
 T-normalised = normalised one-T (T′ ∷ I ∷ []) tt
 
 T-shortened : Shortens one-T (T′ ∷ I ∷ [])
 T-shortened = shortened one-T (T′ ∷ I ∷ []) (T′ ∷ I ∷ []) tt refl
 
--- ---- always I
 pub always-I-3 : (r : Written) → NormaliseOutcome (bytes one-T) (dots 2) r (bytes (I ∷ []) ++ dots 1) → ⊥
-always-I-3 r o =
-    differ 73 84 (job3-only one-T (T′ ∷ I ∷ []) (dots 2) tt (omega arith) r (bytes (I ∷ []) ++ dots 1) T-normalised o) refl refl (λ e. omega arith)
+always-I-3 r o = omega (arith, first-same (job3-only one-T (T′ ∷ I ∷ []) (dots 2) tt (omega arith) T-normalised o))
 
 pub always-I-5 : (r : Written) → PhaseFreeOutcome (bytes one-T) (dots 2) r (bytes (I ∷ []) ++ dots 1) → ⊥
-always-I-5 r o =
-    differ 73 84 (job5-only one-T (T′ ∷ I ∷ []) (dots 2) tt (omega arith) r (bytes (I ∷ []) ++ dots 1) T-shortened o) refl refl (λ e. omega arith)
+always-I-5 r o = omega (arith, first-same (job5-only one-T (T′ ∷ I ∷ []) (dots 2) tt (omega arith) T-shortened o))
 
 -- ---- the word copied through
 pub copied-3 : (r : Written) → NormaliseOutcome (bytes two-T) (dots 2) r (bytes two-T) → ⊥
-copied-3 r o =
-    differ 84 83 (job3-only two-T (S ∷ []) (dots 2) tt (omega arith) r (bytes two-T) (normalised two-T (S ∷ []) tt) o) refl refl (λ e. omega arith)
+copied-3 r o = omega (arith, first-same (job3-only two-T (S ∷ []) (dots 2) tt (omega arith) (normalised two-T (S ∷ []) tt) o))
 
 pub copied-5 : (r : Written) → PhaseFreeOutcome (bytes two-T) (dots 2) r (bytes two-T) → ⊥
-copied-5 r o =
-    differ 84 83 (job5-only two-T (S ∷ []) (dots 2) tt (omega arith) r (bytes two-T) (shortened two-T (S ∷ []) (S ∷ []) tt refl) o) refl refl
-    (λ e. omega arith)
+copied-5 r o = omega (arith, first-same (job5-only two-T (S ∷ []) (dots 2) tt (omega arith) (shortened two-T (S ∷ []) (S ∷ []) tt refl) o))
 
 -- ---- the first hundred letters normalised, and the others copied: those hundred are WWWW
 pub first-hundred : Normalises (times 100 W) (times 4 W)
@@ -197,29 +203,23 @@ short-hundred = tt
 
 pub first-letters-3 : (r : Written) → NormaliseOutcome (bytes hundred) (dots 8) r (bytes (times 4 W ++ two-T) ++ dots 2) → ⊥
 first-letters-3 r o =
-    let new = bytes (times 4 W ++ two-T) ++ dots 2 in
-    differ 87 83 (job3-only hundred (S ∷ times 4 W) (dots 8) short-hundred (omega arith) r new right o) refl refl (λ e. omega arith)
-  where
-    right : Normalises hundred (S ∷ times 4 W)
-    right = normalised hundred (S ∷ times 4 W) whole-hundred
+    let a = normalised hundred (S ∷ times 4 W) whole-hundred in
+    omega (arith, first-same (job3-only hundred (S ∷ times 4 W) (dots 8) short-hundred (omega arith) a o))
 
 pub first-letters-5 : (r : Written) → PhaseFreeOutcome (bytes hundred) (dots 8) r (bytes two-T ++ dots 6) → ⊥
 first-letters-5 r o =
-    differ 84 83 (job5-only hundred (S ∷ []) (dots 8) short-hundred (omega arith) r (bytes two-T ++ dots 6) right o) refl refl (λ e. omega arith)
-  where
-    right : Shortens hundred (S ∷ [])
-    right = shortened hundred (S ∷ times 4 W) (S ∷ []) whole-hundred refl
+    let a = shortened hundred (S ∷ times 4 W) (S ∷ []) whole-hundred refl in
+    omega (arith, first-same (job5-only hundred (S ∷ []) (dots 8) short-hundred (omega arith) a o))
 
 -- ---- a T count one too high
-pub tees-too-many : (new : List ℕ) → NormaliseOutcome (bytes one-T) (dots 2) (record { refusal = Accepted; place = 0; bytes = 2; tees = 2 }) new → ⊥
+pub tees-too-many : (new : List ℕ)
+    → NormaliseOutcome (bytes one-T) (dots 2) (record { refusal = Accepted; place = 0; bytes = 2; tees = 2 }) new → ⊥
 tees-too-many new o =
-    let e = handed-same (job3-only one-T (T′ ∷ I ∷ []) (dots 2) tt (omega arith) _ new T-normalised o) in
-    let z : _≡_ {A = ℕ} 2 1 = ap (λ (x : Written). x .tees) e in
-    omega arith
+    let e = handed-same (job3-only one-T (T′ ∷ I ∷ []) (dots 2) tt (omega arith) T-normalised o) in
+    omega (arith, ap (λ (x : Written). x .tees) e)
 
 -- ---- a byte written before the room test: the word T with room for one byte
 pub early-byte : (r : Written) → NormaliseOutcome (bytes one-T) (dots 1) r (84 ∷ []) → ⊥
-early-byte r o = differ 84 46 (normalise-unique (bytes one-T) (dots 1) r (84 ∷ []) (refused Room 0) (dots 1) o right) refl refl (λ e. omega arith)
-  where
-    right : NormaliseOutcome (bytes one-T) (dots 1) (refused Room 0) (dots 1)
-    right = fits-not Normalises normalises-single one-T (T′ ∷ I ∷ []) (dots 1) tt T-normalised (omega arith)
+early-byte r o =
+    let e = only-refused Normalises normalises-single one-T (T′ ∷ I ∷ []) (dots 1) tt T-normalised r (84 ∷ []) (omega arith) o in
+    omega (arith, first-same e)
