@@ -7,7 +7,7 @@ use native.Mathlib.Omega.{arith}
 use lib.Dec.{T, eqb}
 use lib.ListN.{length, getD}
 use borrow.Author.Tests.{eqb-true, eqb-false}
-use Rattle.exact.specs.Meaning.Word.{Letter, I, H, S, X, W, T′, byte, bytes, job3, In, FirstOutside, Spells}
+use Rattle.exact.specs.Meaning.Word.{Letter, I, H, S, X, W, T′, byte, bytes, job3, In, FirstOutside}
 use Rattle.exact.specs.Cases.Letters.{letterOf, letterOf-byte, lettersOf}
 use Rattle.normal_form.specs.declared.reading.Read.{Read}
 use Rattle.normal_form.specs.declared.reading.Read.the-variants as Read
@@ -35,7 +35,8 @@ pick h s x w t = cond h H (cond s S (cond x X (cond w W (cond t T′ I))))
 byte-back : (b : ℕ) → known b ≡ true → byte (letterOf b) ≡ b
 byte-back b k = go (eqb b 72) (eqb b 83) (eqb b 88) (eqb b 87) (eqb b 84) refl refl refl refl refl k
   where
-    go : (h s x w t : Bool) → eqb b 72 ≡ h → eqb b 83 ≡ s → eqb b 88 ≡ x → eqb b 87 ≡ w → eqb b 84 ≡ t → job3 (pick h s x w t) ≡ true → byte (pick h s x w t) ≡ b
+    go : (h s x w t : Bool) → eqb b 72 ≡ h → eqb b 83 ≡ s → eqb b 88 ≡ x → eqb b 87 ≡ w → eqb b 84 ≡ t
+        → job3 (pick h s x w t) ≡ true → byte (pick h s x w t) ≡ b
     go true s x w t e f g i j k = sym (eqb-true b 72 e)
     go false true x w t e f g i j k = sym (eqb-true b 83 f)
     go false false true w t e f g i j k = sym (eqb-true b 88 g)
@@ -77,9 +78,10 @@ inside-more w n f h = λ i l. at i l (eqb i n) refl
     at i l true e = subst (λ (j : ℕ). In job3 (getD w j 0)) (sym (eqb-true i n e)) h
     at i l false e = let g : (i ≡ n → ⊥) = eqb-false i n e in f i (omega (arith, g))
 
-bytes-back : (w : List ℕ) → Inside w (length w) → bytes (lettersOf w) ≡ w
+-- the letters' bytes are the word's, and none of them is outside
+pub bytes-back : (w : List ℕ) → Inside w (length w) → bytes (lettersOf w) ≡ w
 bytes-back [] f = refl
 bytes-back (b ∷ w) f = ap₂ _∷_ (byte-back b (in-known b (f 0 (omega arith)))) (bytes-back w (λ i h. f (suc i) (omega arith)))
 
-pub spells : (w : List ℕ) → Inside w (length w) → Spells job3 w (lettersOf w)
-spells w f = record { spelled = bytes-back w f; inside = f }
+pub none-outside : (w : List ℕ) → Inside w (length w) → (p : ℕ) → FirstOutside job3 w p → ⊥
+none-outside w f p o = o .outside (f p (o .there))

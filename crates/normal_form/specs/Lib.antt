@@ -10,3 +10,4 @@ pub mod Put
 pub mod Endings
 pub mod Answers
 pub mod Theorems
+pub mod Skipped

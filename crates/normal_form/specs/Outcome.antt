@@ -1,20 +1,21 @@
--- What jobs 3 and 5 promise: which refusal exactly when, its place, the length, the T letters, and every lent byte at the end; and that two allowed
--- outcomes are equal.
-use mathlib.Core.Path.{_≡_, refl, sym, _∙_, ap, subst}
-use mathlib.Core.Bool.{Bool, true, false}
-use mathlib.Core.List.{List, _++_}
+-- What jobs 3 and 5 promise: document 01's refusals in their order, or the answer in the lent bytes; that two allowed outcomes are equal;
+-- and how each is reached. Assumes nothing.
+use mathlib.Core.Path.{_≡_, refl, sym, _∙_, ap, ap₂, subst}
+use mathlib.Core.List.{List}
 use Prim.Native.Nat.{ℕ, _<_, _≤_}
 use native.Mathlib.Omega.{arith}
-use lib.Dec.{ltb}
-use lib.ListN.{length, drop}
-use borrow.Author.Tests.{ltb-true, ltb-false}
+use lib.ListN.{length}
 use Rattle.exact.specs.Meaning.Matrix.{Same}
-use Rattle.exact.specs.Meaning.Word.{Letter as Gate, word, tees, bytes, job3, FirstOutside, Spells}
-use Rattle.exact.specs.Meaning.Normal.{Normal, PhaseFree}
+use Rattle.exact.specs.Meaning.Word.{Letter as Gate, word, tees, bytes, job3, FirstOutside, Spelled}
+use Rattle.exact.specs.Meaning.Normal.{Normal, PhaseFree, lessFinalW}
 use Rattle.exact.specs.Meaning.Limits.{longest, Accepted, Long, Letter, Room}
+use Rattle.exact.specs.Meaning.Outcome.{Refusals, none, _then_, Rung, Outcome}
+use Rattle.exact.specs.Meaning.Lent.{Lent, over, untouched, Writes}
+use Rattle.exact.specs.Meaning.Refusals.{long, letter, room}
 use Rattle.exact.specs.Matrices.Same.{Same-sym, Same-trans}
-use Rattle.exact.specs.Cases.Letters.{bytes-inj}
 use Rattle.exact.specs.Unique.Normal.{unique}
+use Rattle.exact.specs.Outcomes.Ladder.{Only, one-outcome}
+use Rattle.exact.specs.Outcomes.Places.{one-plain, one-letter, one-spelled, one-written}
 use Rattle.normal_form.specs.declared.Written.{Written}
 
 -- ---- the answer to a word u
@@ -29,72 +30,96 @@ pub record Shortens (u v : List Gate) : Type 0 where
   pub phase-free : PhaseFree v whole
   pub same : Same (word u) (word whole)
 
--- ---- what is handed back
-abbrev pub handed : ℕ → ℕ → ℕ → ℕ → Written
-handed n p l t = record { refusal = n; place = p; bytes = l; tees = t }
-
+-- ---- what a writing job hands back
 abbrev pub refused : ℕ → ℕ → Written
-refused n p = handed n p 0 0
+refused n p = record { refusal = n; place = p; bytes = 0; tees = 0 }
 
--- the answer v, and the lent bytes before and after
-pub data Answered (v : List Gate) (old : List ℕ) (r : Written) (new : List ℕ) : Type 0 where
-  room : length old < length v → r ≡ refused Room 0 → new ≡ old → Answered v old r new
-  accepted : length v ≤ length old → r ≡ handed Accepted 0 (length v) (tees v) → new ≡ bytes v ++ drop (length v) old → Answered v old r new
+abbrev pub counts : List Gate → Written
+counts v = record { refusal = Accepted; place = 0; bytes = length v; tees = tees v }
 
-pub data Outcome (Answer : List Gate → List Gate → Type 0) (w old : List ℕ) (r : Written) (new : List ℕ) : Type 0 where
-  long : longest < length w → r ≡ refused Long 0 → new ≡ old → Outcome Answer w old r new
-  letter : (p : ℕ) → length w ≤ longest → FirstOutside job3 w p → r ≡ refused Letter p → new ≡ old → Outcome Answer w old r new
-  answered : (u v : List Gate) → length w ≤ longest → Spells job3 w u → Answer u v → Answered v old r new → Outcome Answer w old r new
+-- with the lent bytes at the end
+abbrev pub lent : Written → List ℕ → Lent Written
+lent r new = record { handed = r; buffer = new }
+
+-- ---- jobs 3 and 5: long, letter, room, or the answer to the word's letters, written
+module _ (Answer : List Gate → List Gate → Type 0) (w old : List ℕ) where
+  abbrev pub wordRefusals : Refusals
+  wordRefusals = long w then letter job3 w then room bytes (Spelled Answer w) old then none
+
+  abbrev pub WordOutcome : Written → List ℕ → Type 0
+  WordOutcome r new = Outcome (untouched refused old) (Writes bytes counts (Spelled Answer w) old) wordRefusals (lent r new)
+
+abbrev pub NormaliseOutcome : List ℕ → List ℕ → Written → List ℕ → Type 0
+NormaliseOutcome w old r new = WordOutcome Normalises w old r new
+
+abbrev pub PhaseFreeOutcome : List ℕ → List ℕ → Written → List ℕ → Type 0
+PhaseFreeOutcome w old r new = WordOutcome Shortens w old r new
 
 -- ---- an answer is the only one
-pub record Single (Answer : List Gate → List Gate → Type 0) : Type 0 where
-  pub single : (u v v′ : List Gate) → Answer u v → Answer u v′ → v ≡ v′
+pub normalises-single : (u : List Gate) → Only (Normalises u)
+normalises-single u v v′ p q = unique (p .normal) (q .normal) (Same-trans (Same-sym (p .same)) (q .same))
 
-pub normalises-single : Single Normalises
-normalises-single = record { single = λ u v v′ p q. unique (p .normal) (q .normal) (Same-trans (Same-sym (p .same)) (q .same)) }
-
-pub shortens-single : Single Shortens
-shortens-single = record { single = one }
+pub shortens-single : (u : List Gate) → Only (Shortens u)
+shortens-single u v v′ p q = sym (p .phase-free .less) ∙ ap lessFinalW whole ∙ q .phase-free .less
   where
-    one : (u v v′ : List Gate) → Shortens u v → Shortens u v′ → v ≡ v′
-    one u v v′ p q =
-        sym (p .phase-free .less)
-        ∙ ap Rattle.exact.specs.Meaning.Normal.lessFinalW (unique (p .phase-free .normal) (q .phase-free .normal) (Same-trans (Same-sym (p .same)) (q .same)))
-        ∙ q .phase-free .less
+    whole : p .whole ≡ q .whole
+    whole = unique (p .phase-free .normal) (q .phase-free .normal) (Same-trans (Same-sym (p .same)) (q .same))
 
 -- ---- two allowed outcomes are equal
-pub record Equal (r : Written) (new : List ℕ) (r′ : Written) (new′ : List ℕ) : Type 0 where
-  pub handed-same : r ≡ r′
-  pub bytes-same : new ≡ new′
+pub outcome-unique : {Answer : List Gate → List Gate → Type 0} → ((u : List Gate) → Only (Answer u))
+    → (w old : List ℕ) (r : Written) (new : List ℕ) (r′ : Written) (new′ : List ℕ)
+    → WordOutcome Answer w old r new → WordOutcome Answer w old r′ new′ → lent r new ≡ lent r′ new′
+outcome-unique {Answer} one w old r new r′ new′ =
+    one-outcome (untouched refused old) (Writes bytes counts (Spelled Answer w) old)
+    (wordRefusals Answer w old) (one-plain, (one-letter, (one-plain, tt)))
+    (λ h. one-written bytes counts (Spelled Answer w) old (one-spelled Answer one w)) (lent r new) (lent r′ new′)
 
-both : {r r′ x : Written} {new new′ y : List ℕ} → r ≡ x → r′ ≡ x → new ≡ y → new′ ≡ y → Equal r new r′ new′
-both e f g h = record { handed-same = e ∙ sym f; bytes-same = g ∙ sym h }
+pub handed-same : {r r′ : Written} {new new′ : List ℕ} → lent r new ≡ lent r′ new′ → r ≡ r′
+handed-same e = ap (λ (x : Lent Written). x .handed) e
 
-one-place : (w : List ℕ) (p q : ℕ) → FirstOutside job3 w p → FirstOutside job3 w q → p ≡ q
-one-place w p q h k = at (ltb p q) (ltb q p) refl refl
-  where
-    at : (a b : Bool) → ltb p q ≡ a → ltb q p ≡ b → p ≡ q
-    at true b e f = absurd (h .outside (k .before p (ltb-true p q e)))
-    at false true e f = absurd (k .outside (h .before q (ltb-true q p f)))
-    at false false e f = omega (arith, ltb-false p q e, ltb-false q p f)
+pub bytes-same : {r r′ : Written} {new new′ : List ℕ} → lent r new ≡ lent r′ new′ → new ≡ new′
+bytes-same e = ap (λ (x : Lent Written). x .buffer) e
 
-same-answer : (v : List Gate) (old : List ℕ) (r : Written) (new : List ℕ) (r′ : Written) (new′ : List ℕ) → Answered v old r new → Answered v old r′ new′ → Equal r new r′ new′
-same-answer v old r new r′ new′ (room l e f) (room l′ e′ f′) = both e e′ f f′
-same-answer v old r new r′ new′ (room l e f) (accepted l′ e′ f′) = absurd (omega arith)
-same-answer v old r new r′ new′ (accepted l e f) (room l′ e′ f′) = absurd (omega arith)
-same-answer v old r new r′ new′ (accepted l e f) (accepted l′ e′ f′) = both e e′ f f′
+-- ---- how each outcome is reached
+-- by a refusal the lent bytes stay
+stays : {r : Written} {n p : ℕ} (old : List ℕ) → r ≡ refused n p → lent r old ≡ untouched refused old n p
+stays old e = ap (λ (x : Written). lent x old) e
 
-pub outcome-unique : {Answer : List Gate → List Gate → Type 0} → Single Answer → (w old : List ℕ) (r : Written) (new : List ℕ) (r′ : Written) (new′ : List ℕ) → Outcome Answer w old r new → Outcome Answer w old r′ new′ → Equal r new r′ new′
-outcome-unique s w old r new r′ new′ (long l e f) (long l′ e′ f′) = both e e′ f f′
-outcome-unique s w old r new r′ new′ (long l e f) (letter p l′ o e′ f′) = absurd (omega arith)
-outcome-unique s w old r new r′ new′ (long l e f) (answered u v l′ z a b) = absurd (omega arith)
-outcome-unique s w old r new r′ new′ (letter p l o e f) (long l′ e′ f′) = absurd (omega arith)
-outcome-unique s w old r new r′ new′ (letter p l o e f) (letter q l′ o′ e′ f′) = both e (e′ ∙ ap (refused Letter) (one-place w q p o′ o)) f f′
-outcome-unique s w old r new r′ new′ (letter p l o e f) (answered u v l′ z a b) = absurd (o .outside (z .inside p (o .there)))
-outcome-unique s w old r new r′ new′ (answered u v l z a b) (long l′ e′ f′) = absurd (omega arith)
-outcome-unique s w old r new r′ new′ (answered u v l z a b) (letter p l′ o e f) = absurd (o .outside (z .inside p (o .there)))
-outcome-unique {Answer} s w old r new r′ new′ (answered u v l z a b) (answered u′ v′ l′ z′ a′ b′) =
-    same-answer v old r new r′ new′ b (subst (λ (x : List Gate). Answered x old r′ new′) (sym same) b′)
-  where
-    same : v ≡ v′
-    same = s .single u v v′ a (subst (λ (x : List Gate). Answer x v′) (bytes-inj u′ u (z′ .spelled ∙ sym (z .spelled))) a′)
+module _ (Answer : List Gate → List Gate → Type 0) (w old : List ℕ) (r : Written) where
+  pub too-long : longest < length w → r ≡ refused Long 0 → WordOutcome Answer w old r old
+  too-long l e = Rung.given 0 (l, refl) (stays old e)
+
+  pub outside-at : (p : ℕ) → length w ≤ longest → FirstOutside job3 w p → r ≡ refused Letter p → WordOutcome Answer w old r old
+  outside-at p l o e = Rung.passed (λ q h. omega (arith, h .0)) (Rung.given p o (stays old e))
+
+-- the rungs below those of the word: room, or the answer written
+abbrev pub RoomOutcome : (List Gate → Type 0) → List ℕ → Written → List ℕ → Type 0
+RoomOutcome Answer old r new =
+    Outcome (untouched refused old) (Writes bytes counts Answer old) (room bytes Answer old then none) (lent r new)
+
+module _ (Answer : List Gate → List Gate → Type 0) (w old : List ℕ) (r : Written) (new : List ℕ) where
+  pub past-letters : length w ≤ longest → ((p : ℕ) → FirstOutside job3 w p → ⊥) → RoomOutcome (Spelled Answer w) old r new
+      → WordOutcome Answer w old r new
+  past-letters l i x = Rung.passed (λ q h. omega (arith, h .0)) (Rung.passed i x)
+
+-- the answer is v alone
+module _ (v : List Gate) (old : List ℕ) (r : Written) where
+  pub no-room : length old < length (bytes v) → r ≡ refused Room 0 → RoomOutcome (λ x. x ≡ v) old r old
+  no-room l e = Rung.given 0 (record { v = v; answer = refl; more = l }, refl) (stays old e)
+
+  pub written-whole : (new : List ℕ) → length (bytes v) ≤ length old → r ≡ counts v → new ≡ over (bytes v) old
+      → RoomOutcome (λ x. x ≡ v) old r new
+  written-whole new l e f =
+      Rung.passed (λ p h. omega (arith, h .0 .more, ap (λ (x : List Gate). length (bytes x)) (h .0 .answer)))
+      (record { v = v; answer = refl; is = ap₂ lent e f })
+
+-- an answer that is the only one is v alone
+module _ (Answer : List Gate → Type 0) (one : Only Answer) (v : List Gate) (a : Answer v) (old : List ℕ) (r : Written) (new : List ℕ) where
+  alone : (x : List Gate) → x ≡ v → Answer x
+  alone x e = subst Answer (sym e) a
+
+  pub the-only : RoomOutcome (λ x. x ≡ v) old r new → RoomOutcome Answer old r new
+  the-only (Rung.given p h e) = Rung.given p (record { v = h .0 .v; answer = alone (h .0 .v) (h .0 .answer); more = h .0 .more }, h .1) e
+  the-only (Rung.passed n x) =
+      Rung.passed (λ p h. n p (record { v = h .0 .v; answer = one (h .0 .v) v (h .0 .answer) a; more = h .0 .more }, h .1))
+      (record { v = x .v; answer = alone (x .v) (x .answer); is = x .is })

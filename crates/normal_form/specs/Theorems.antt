@@ -1,34 +1,41 @@
--- What follows from the outcomes of jobs 3 and 5: they are unique, a normal word always exists and has the fewest T letters, document 01's table of
--- cases, and that no useless program meets them. Assumes nothing.
+-- What follows from the outcomes of jobs 3 and 5: they are unique, a normal word always exists and has the fewest T letters, document 01's
+-- table of cases, and that no useless program meets them. Assumes nothing.
 use mathlib.Core.Path.{_≡_, refl, sym, _∙_, ap, subst}
 use mathlib.Core.Bool.{Bool, true, _&&_}
 use mathlib.Core.List.{List, [], _∷_, _++_}
 use Prim.Native.Nat.{ℕ, zero, suc, _<_, _≤_}
 use native.Mathlib.Omega.{arith}
 use lib.Dec.{T, leb, leb→le}
-use lib.ListN.{length, getD, drop}
+use lib.ListN.{length, getD}
 use mir.Facts.{and-yes}
 use Rattle.exact.specs.Meaning.Matrix.{Same}
-use Rattle.exact.specs.Meaning.Word.{Letter, I, S, W, T′, word, tees, byte, bytes, job3, In, Spells}
+use Rattle.exact.specs.Meaning.Word.{Letter, I, S, W, T′, word, tees, bytes, job3, Spelled}
 use Rattle.exact.specs.Meaning.Normal.{Normal, times, lessFinalW}
-use Rattle.exact.specs.Meaning.Limits.{longest, Accepted}
+use Rattle.exact.specs.Meaning.Limits.{longest, Accepted, Room}
+use Rattle.exact.specs.Meaning.Lent.{Lent, over, untouched, Writes}
 use Rattle.exact.specs.Matrices.Test.{sameTest, same-by}
 use Rattle.exact.specs.Unique.Normal.{normal-fewest}
+use Rattle.exact.specs.Outcomes.Ladder.{Only, always}
+use Rattle.exact.specs.Outcomes.Places.{one-spelled}
 use Rattle.exact.specs.Cases.Letters.{bytes-inj}
 use Rattle.exact.specs.Cases.NormalTest.{normalTest, normal-by}
 use Rattle.exact.specs.Cases.Table.{Row, Each, cases, Normalised, all-cases}
 use Rattle.normal_form.specs.declared.Written.{Written}
-use Rattle.normal_form.specs.Outcome.{Normalises, Shortens, handed, Answered, room, accepted, Outcome, long, letter, answered, normalises-single, shortens-single, Equal, outcome-unique}
+use Rattle.normal_form.specs.Outcome.{Normalises, Shortens, normalises-single, shortens-single, refused, counts, lent}
+use Rattle.normal_form.specs.Outcome.{wordRefusals, WordOutcome, NormaliseOutcome, PhaseFreeOutcome, RoomOutcome}
+use Rattle.normal_form.specs.Outcome.{outcome-unique, handed-same, bytes-same, past-letters, no-room, written-whole, the-only}
 use Rattle.normal_form.specs.Readings.{start, run}
 use Rattle.normal_form.specs.Endings.{textOf}
+use Rattle.normal_form.specs.Letters.{Inside, none-outside}
 use Rattle.normal_form.specs.Answers.{answers}
 
 -- ---- two outcomes that job 3 or job 5 allows are equal
-pub normalise-unique : (w old : List ℕ) (r : Written) (new : List ℕ) (r′ : Written) (new′ : List ℕ) → Outcome Normalises w old r new → Outcome Normalises w old r′ new′ → Equal r new r′ new′
-normalise-unique = outcome-unique normalises-single
+module _ (w old : List ℕ) (r : Written) (new : List ℕ) (r′ : Written) (new′ : List ℕ) where
+  pub normalise-unique : NormaliseOutcome w old r new → NormaliseOutcome w old r′ new′ → lent r new ≡ lent r′ new′
+  normalise-unique = outcome-unique normalises-single w old r new r′ new′
 
-pub phase-free-unique : (w old : List ℕ) (r : Written) (new : List ℕ) (r′ : Written) (new′ : List ℕ) → Outcome Shortens w old r new → Outcome Shortens w old r′ new′ → Equal r new r′ new′
-phase-free-unique = outcome-unique shortens-single
+  pub phase-free-unique : PhaseFreeOutcome w old r new → PhaseFreeOutcome w old r′ new′ → lent r new ≡ lent r′ new′
+  phase-free-unique = outcome-unique shortens-single w old r new r′ new′
 
 -- ---- every word has a normal word
 pub record HasNormal (u : List Letter) : Type 0 where
@@ -40,64 +47,77 @@ pub has-normal : (u : List Letter) → HasNormal u
 has-normal u = let a = answers true u in record { v = textOf true (run start u); normal = a .normal; same = a .same }
 
 -- ---- normalising never adds a T
-fewest : (u v : List Letter) (old : List ℕ) (r : Written) (new : List ℕ) → Normalises u v → Answered v old r new → r .tees ≤ tees u
-fewest u v old r new a (room l e f) = rw e (omega arith)
-fewest u v old r new a (accepted l e f) = rw e (normal-fewest u (a .same) (a .normal))
-
-pub never-adds : (u : List Letter) (old : List ℕ) (r : Written) (new : List ℕ) → Outcome Normalises (bytes u) old r new → r .tees ≤ tees u
-never-adds u old r new (long l e f) = rw e (omega arith)
-never-adds u old r new (letter p l o e f) = rw e (omega arith)
-never-adds u old r new (answered u′ v l z a b) = subst (λ (x : List Letter). r .tees ≤ tees x) (bytes-inj u′ u (z .spelled)) (fewest u′ v old r new a b)
+pub never-adds : (u : List Letter) (old : List ℕ) (r : Written) (new : List ℕ) → NormaliseOutcome (bytes u) old r new → r .tees ≤ tees u
+never-adds u old r new o =
+    always (untouched refused old) (Writes bytes counts (Spelled Normalises (bytes u)) old)
+    (λ x. x .handed .tees ≤ tees u) (λ n p. omega arith) fewest (wordRefusals Normalises (bytes u) old) (lent r new) o
+  where
+    fewest : (x : Lent Written) → Writes bytes counts (Spelled Normalises (bytes u)) old x → x .handed .tees ≤ tees u
+    fewest x a =
+        let s = a .answer in
+        let m : (tees (a .v) ≤ tees (s .letters)) = normal-fewest (s .letters) (s .holds .same) (s .holds .normal) in
+        omega (arith, ap (λ (y : Lent Written). y .handed .tees) (a .is), ap tees (bytes-inj (s .letters) u (s .spelled)))
 
 -- ---- words of job 3's letters, by a test
 abbrev pub allowed : List Letter → Bool
 allowed [] = true
 allowed (l ∷ u) = job3 l && allowed u
 
-pub spells-by : (u : List Letter) → T (allowed u) → Spells job3 (bytes u) u
-spells-by u t = record { spelled = refl; inside = go u t }
-  where
-    go : (u : List Letter) → T (allowed u) → (i : ℕ) → i < length (bytes u) → In job3 (getD (bytes u) i 0)
-    go [] t i h = absurd (omega arith)
-    go (l ∷ u) t zero h = record { letter-there = l; allowed = and-yes (job3 l) (allowed u) t .0; is = refl }
-    go (l ∷ u) t (suc i) h = go u (and-yes (job3 l) (allowed u) t .1) i (omega arith)
+pub spells-by : (u : List Letter) → T (allowed u) → Inside (bytes u) (length (bytes u))
+spells-by [] t i h = absurd (omega arith)
+spells-by (l ∷ u) t zero h = record { letter-there = l; allowed = and-yes (job3 l) (allowed u) t .0; is = refl }
+spells-by (l ∷ u) t (suc i) h = spells-by u (and-yes (job3 l) (allowed u) t .1) i (omega arith)
 
--- an answer that fits is what is handed back
-outcome-by : (Answer : List Letter → List Letter → Type 0) (u v : List Letter) (old : List ℕ) → T (allowed u && leb (length (bytes u)) longest) → Answer u v → length v ≤ length old → Outcome Answer (bytes u) old (handed Accepted 0 (length v) (tees v)) (bytes v ++ drop (length v) old)
-outcome-by Answer u v old t a l =
-    let s = and-yes (allowed u) (leb (length (bytes u)) longest) t in
-    answered u v (leb→le (length (bytes u)) longest (s .1)) (spells-by u (s .0)) a (accepted l refl refl)
+abbrev short : List Letter → Bool
+short u = allowed u && leb (length (bytes u)) longest
+
+-- the answer v to such a word u: what is handed back, and nothing else, where it fits and where it does not
+module _ (Answer : List Letter → List Letter → Type 0) (one : (u : List Letter) → Only (Answer u)) (u v : List Letter) (old : List ℕ)
+    (t : T (short u)) (a : Answer u v) where
+  answer-spelled : Spelled Answer (bytes u) v
+  answer-spelled = record { letters = u; spelled = refl; holds = a }
+
+  by-room : (r : Written) (new : List ℕ) → RoomOutcome (λ x. x ≡ v) old r new → WordOutcome Answer (bytes u) old r new
+  by-room r new o =
+      let s = and-yes (allowed u) (leb (length (bytes u)) longest) t in
+      past-letters Answer (bytes u) old r new (leb→le (length (bytes u)) longest (s .1)) (none-outside (bytes u) (spells-by u (s .0)))
+      (the-only (Spelled Answer (bytes u)) (one-spelled Answer one (bytes u)) v answer-spelled old r new o)
+
+  refused-there : length old < length (bytes v) → WordOutcome Answer (bytes u) old (refused Room 0) old
+  refused-there l = by-room (refused Room 0) old (no-room v old (refused Room 0) l refl)
+
+  pub fits : length (bytes v) ≤ length old → WordOutcome Answer (bytes u) old (counts v) (over (bytes v) old)
+  fits l = by-room (counts v) (over (bytes v) old) (written-whole v old (counts v) (over (bytes v) old) l refl refl)
+
+  module _ (r : Written) (new : List ℕ) where
+    pub only-fits : length (bytes v) ≤ length old → WordOutcome Answer (bytes u) old r new
+        → lent r new ≡ lent (counts v) (over (bytes v) old)
+    only-fits l o = outcome-unique one (bytes u) old r new (counts v) (over (bytes v) old) o (fits l)
+
+    pub only-refused : length old < length (bytes v) → WordOutcome Answer (bytes u) old r new → lent r new ≡ lent (refused Room 0) old
+    only-refused l o = outcome-unique one (bytes u) old r new (refused Room 0) old o (refused-there l)
 
 -- ---- document 01's cases: the outcome of job 3 at each left side is the right side, in a buffer with room for it
 pub record CaseMet (r : Row) : Type 0 where
-  pub met : (old : List ℕ) → length (r .right) ≤ length old → Outcome Normalises (bytes (r .left)) old (handed Accepted 0 (length (r .right)) (tees (r .right))) (bytes (r .right) ++ drop (length (r .right)) old)
-
-abbrev short : Row → Bool
-short r = allowed (r .left) && leb (length (bytes (r .left))) longest
+  pub met : (old : List ℕ) → length (bytes (r .right)) ≤ length old
+      → NormaliseOutcome (bytes (r .left)) old (counts (r .right)) (over (bytes (r .right)) old)
 
 abbrev every : List Row → Bool
 every [] = true
-every (r ∷ rs) = short r && every rs
+every (r ∷ rs) = short (r .left) && every rs
 
 each-met : (rs : List Row) → Each Normalised rs → T (every rs) → Each CaseMet rs
 each-met [] e t = tt
 each-met (r ∷ rs) e t =
-    let s = and-yes (short r) (every rs) t in
-    (record { met = λ old l. outcome-by Normalises (r .left) (r .right) old (s .0) (record { normal = e .0 .normal; same = e .0 .same }) l }, each-met rs (e .1) (s .1))
+    let s = and-yes (short (r .left)) (every rs) t in
+    let a : Normalises (r .left) (r .right) = record { normal = e .0 .normal; same = e .0 .same } in
+    (record { met = λ old. fits Normalises normalises-single (r .left) (r .right) old (s .0) a }, each-met rs (e .1) (s .1))
 
 pub cases-met : Each CaseMet cases
 unfolding cases
 cases-met = each-met cases all-cases tt
 
 -- ---- useless programs, each refuted at an input
--- a program's answer for a word, where the right answer v fits, is v
-module _ (u v : List Letter) (old : List ℕ) (t : T (allowed u && leb (length (bytes u)) longest)) (l : length v ≤ length old) (r : Written) (new : List ℕ) where
-  pub job3-only : Normalises u v → Outcome Normalises (bytes u) old r new → Equal r new (handed Accepted 0 (length v) (tees v)) (bytes v ++ drop (length v) old)
-  job3-only a o = normalise-unique (bytes u) old r new (handed Accepted 0 (length v) (tees v)) (bytes v ++ drop (length v) old) o (outcome-by Normalises u v old t a l)
-
-  pub job5-only : Shortens u v → Outcome Shortens (bytes u) old r new → Equal r new (handed Accepted 0 (length v) (tees v)) (bytes v ++ drop (length v) old)
-  job5-only a o = phase-free-unique (bytes u) old r new (handed Accepted 0 (length v) (tees v)) (bytes v ++ drop (length v) old) o (outcome-by Shortens u v old t a l)
-
 normalised : (u v : List Letter) → T (normalTest v && sameTest (word u) (word v)) → Normalises u v
 normalised u v t =
     let s = and-yes (normalTest v) (sameTest (word u) (word v)) t in
@@ -107,6 +127,18 @@ shortened : (u v x : List Letter) → T (normalTest v && sameTest (word u) (word
 shortened u v x t e =
     let a = normalised u v t in
     record { whole = v; phase-free = record { normal = a .normal; less = e }; same = a .same }
+
+-- a program's answer for a word u, where the right answer v fits, is v
+module _ (u v : List Letter) (old : List ℕ) (t : T (short u)) (l : length (bytes v) ≤ length old) {r : Written} {new : List ℕ} where
+  pub job3-only : Normalises u v → NormaliseOutcome (bytes u) old r new → lent r new ≡ lent (counts v) (over (bytes v) old)
+  job3-only a = only-fits Normalises normalises-single u v old t a r new l
+
+  pub job5-only : Shortens u v → PhaseFreeOutcome (bytes u) old r new → lent r new ≡ lent (counts v) (over (bytes v) old)
+  job5-only a = only-fits Shortens shortens-single u v old t a r new l
+
+-- so its first byte is v's
+first-same : {r s : Written} {x y : List ℕ} → lent r x ≡ lent s y → getD x 0 0 ≡ getD y 0 0
+first-same e = ap (λ (l : List ℕ). getD l 0 0) (bytes-same e)
 
 -- the inputs
 abbrev pub none : List Letter
@@ -127,31 +159,35 @@ dots zero = []
 dots (suc n) = 46 ∷ dots n
 
 -- ---- refuses all
-pub refuses-all-3 : (r : Written) (new : List ℕ) → Outcome Normalises [] (dots 1) r new → r .refusal ≡ 0
-refuses-all-3 r new o = ap (λ (x : Written). x .refusal) (job3-only none (I ∷ []) (dots 1) tt (omega arith) r new (normalised none (I ∷ []) tt) o .handed-same)
+pub refuses-all-3 : (r : Written) (new : List ℕ) → NormaliseOutcome [] (dots 1) r new → r .refusal ≡ 0
+refuses-all-3 r new o =
+    let a = normalised none (I ∷ []) tt in
+    ap (λ (x : Written). x .refusal) (handed-same (job3-only none (I ∷ []) (dots 1) tt (omega arith) a o))
 
-pub refuses-all-5 : (r : Written) (new : List ℕ) → Outcome Shortens [] (dots 1) r new → r .refusal ≡ 0
-refuses-all-5 r new o = ap (λ (x : Written). x .refusal) (job5-only none (I ∷ []) (dots 1) tt (omega arith) r new (shortened none (I ∷ []) (I ∷ []) tt refl) o .handed-same)
-
--- two first bytes that differ
-differ : {x y : List ℕ} (m n : ℕ) → x ≡ y → getD x 0 0 ≡ m → getD y 0 0 ≡ n → (m ≡ n → ⊥) → ⊥
-differ m n e f g h = h (sym f ∙ ap (λ (l : List ℕ). getD l 0 0) e ∙ g)
+pub refuses-all-5 : (r : Written) (new : List ℕ) → PhaseFreeOutcome [] (dots 1) r new → r .refusal ≡ 0
+refuses-all-5 r new o =
+    let a = shortened none (I ∷ []) (I ∷ []) tt refl in
+    ap (λ (x : Written). x .refusal) (handed-same (job5-only none (I ∷ []) (dots 1) tt (omega arith) a o))
 
 -- ---- always I
-pub always-I-3 : (r : Written) → Outcome Normalises (bytes one-T) (dots 2) r (bytes (I ∷ []) ++ dots 1) → ⊥
-always-I-3 r o =
-    differ 73 84 (job3-only one-T (T′ ∷ I ∷ []) (dots 2) tt (omega arith) r (bytes (I ∷ []) ++ dots 1) (normalised one-T (T′ ∷ I ∷ []) tt) o .bytes-same) refl refl (λ e. omega arith)
+T-normalised : Normalises one-T (T′ ∷ I ∷ [])
+T-normalised = normalised one-T (T′ ∷ I ∷ []) tt
 
-pub always-I-5 : (r : Written) → Outcome Shortens (bytes one-T) (dots 2) r (bytes (I ∷ []) ++ dots 1) → ⊥
-always-I-5 r o =
-    differ 73 84 (job5-only one-T (T′ ∷ I ∷ []) (dots 2) tt (omega arith) r (bytes (I ∷ []) ++ dots 1) (shortened one-T (T′ ∷ I ∷ []) (T′ ∷ I ∷ []) tt refl) o .bytes-same) refl refl (λ e. omega arith)
+T-shortened : Shortens one-T (T′ ∷ I ∷ [])
+T-shortened = shortened one-T (T′ ∷ I ∷ []) (T′ ∷ I ∷ []) tt refl
+
+pub always-I-3 : (r : Written) → NormaliseOutcome (bytes one-T) (dots 2) r (bytes (I ∷ []) ++ dots 1) → ⊥
+always-I-3 r o = omega (arith, first-same (job3-only one-T (T′ ∷ I ∷ []) (dots 2) tt (omega arith) T-normalised o))
+
+pub always-I-5 : (r : Written) → PhaseFreeOutcome (bytes one-T) (dots 2) r (bytes (I ∷ []) ++ dots 1) → ⊥
+always-I-5 r o = omega (arith, first-same (job5-only one-T (T′ ∷ I ∷ []) (dots 2) tt (omega arith) T-shortened o))
 
 -- ---- the word copied through
-pub copied-3 : (r : Written) → Outcome Normalises (bytes two-T) (dots 2) r (bytes two-T) → ⊥
-copied-3 r o = differ 84 83 (job3-only two-T (S ∷ []) (dots 2) tt (omega arith) r (bytes two-T) (normalised two-T (S ∷ []) tt) o .bytes-same) refl refl (λ e. omega arith)
+pub copied-3 : (r : Written) → NormaliseOutcome (bytes two-T) (dots 2) r (bytes two-T) → ⊥
+copied-3 r o = omega (arith, first-same (job3-only two-T (S ∷ []) (dots 2) tt (omega arith) (normalised two-T (S ∷ []) tt) o))
 
-pub copied-5 : (r : Written) → Outcome Shortens (bytes two-T) (dots 2) r (bytes two-T) → ⊥
-copied-5 r o = differ 84 83 (job5-only two-T (S ∷ []) (dots 2) tt (omega arith) r (bytes two-T) (shortened two-T (S ∷ []) (S ∷ []) tt refl) o .bytes-same) refl refl (λ e. omega arith)
+pub copied-5 : (r : Written) → PhaseFreeOutcome (bytes two-T) (dots 2) r (bytes two-T) → ⊥
+copied-5 r o = omega (arith, first-same (job5-only two-T (S ∷ []) (dots 2) tt (omega arith) (shortened two-T (S ∷ []) (S ∷ []) tt refl) o))
 
 -- ---- the first hundred letters normalised, and the others copied: those hundred are WWWW
 pub first-hundred : Normalises (times 100 W) (times 4 W)
@@ -161,25 +197,29 @@ whole-hundred : T (normalTest (S ∷ times 4 W) && sameTest (word hundred) (word
 unfolding hundred
 whole-hundred = tt
 
-taken-hundred : T (allowed hundred && leb (length (bytes hundred)) longest)
+short-hundred : T (short hundred)
 unfolding hundred
-taken-hundred = tt
+short-hundred = tt
 
-pub first-letters-3 : (r : Written) → Outcome Normalises (bytes hundred) (dots 8) r (bytes (times 4 W ++ two-T) ++ dots 2) → ⊥
+pub first-letters-3 : (r : Written) → NormaliseOutcome (bytes hundred) (dots 8) r (bytes (times 4 W ++ two-T) ++ dots 2) → ⊥
 first-letters-3 r o =
-    differ 87 83 (job3-only hundred (S ∷ times 4 W) (dots 8) taken-hundred (omega arith) r (bytes (times 4 W ++ two-T) ++ dots 2) (normalised hundred (S ∷ times 4 W) whole-hundred) o .bytes-same) refl refl (λ e. omega arith)
+    let a = normalised hundred (S ∷ times 4 W) whole-hundred in
+    omega (arith, first-same (job3-only hundred (S ∷ times 4 W) (dots 8) short-hundred (omega arith) a o))
 
-pub first-letters-5 : (r : Written) → Outcome Shortens (bytes hundred) (dots 8) r (bytes two-T ++ dots 6) → ⊥
+pub first-letters-5 : (r : Written) → PhaseFreeOutcome (bytes hundred) (dots 8) r (bytes two-T ++ dots 6) → ⊥
 first-letters-5 r o =
-    differ 84 83 (job5-only hundred (S ∷ []) (dots 8) taken-hundred (omega arith) r (bytes two-T ++ dots 6) (shortened hundred (S ∷ times 4 W) (S ∷ []) whole-hundred refl) o .bytes-same) refl refl (λ e. omega arith)
+    let a = shortened hundred (S ∷ times 4 W) (S ∷ []) whole-hundred refl in
+    omega (arith, first-same (job5-only hundred (S ∷ []) (dots 8) short-hundred (omega arith) a o))
 
 -- ---- a T count one too high
-pub tees-too-many : (new : List ℕ) → Outcome Normalises (bytes one-T) (dots 2) (handed Accepted 0 2 2) new → ⊥
+pub tees-too-many : (new : List ℕ)
+    → NormaliseOutcome (bytes one-T) (dots 2) (record { refusal = Accepted; place = 0; bytes = 2; tees = 2 }) new → ⊥
 tees-too-many new o =
-    let e : _≡_ {A = ℕ} 2 1 = ap (λ (x : Written). x .tees) (job3-only one-T (T′ ∷ I ∷ []) (dots 2) tt (omega arith) (handed Accepted 0 2 2) new (normalised one-T (T′ ∷ I ∷ []) tt) o .handed-same) in
-    omega arith
+    let e = handed-same (job3-only one-T (T′ ∷ I ∷ []) (dots 2) tt (omega arith) T-normalised o) in
+    omega (arith, ap (λ (x : Written). x .tees) e)
 
 -- ---- a byte written before the room test: the word T with room for one byte
-pub early-byte : (r : Written) → Outcome Normalises (bytes one-T) (dots 1) r (84 ∷ []) → ⊥
+pub early-byte : (r : Written) → NormaliseOutcome (bytes one-T) (dots 1) r (84 ∷ []) → ⊥
 early-byte r o =
-    differ 84 46 (normalise-unique (bytes one-T) (dots 1) r (84 ∷ []) (handed 7 0 0 0) (dots 1) o (answered one-T (T′ ∷ I ∷ []) (omega arith) (spells-by one-T tt) (normalised one-T (T′ ∷ I ∷ []) tt) (room (omega arith) refl refl)) .bytes-same) refl refl (λ e. omega arith)
+    let e = only-refused Normalises normalises-single one-T (T′ ∷ I ∷ []) (dots 1) tt T-normalised r (84 ∷ []) (omega arith) o in
+    omega (arith, first-same e)

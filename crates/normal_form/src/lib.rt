@@ -2,7 +2,7 @@
 ghost use mathlib.Core.Path.{_≡_};
 ghost use Prim.Native.Nat.{_≤_};
 ghost use lib.ListN.{length};
-ghost use Rattle.normal_form.specs.Outcome.{Normalises, Shortens, Outcome, refused};
+ghost use Rattle.normal_form.specs.Outcome.{refused, WordOutcome, NormaliseOutcome, PhaseFreeOutcome};
 ghost use Rattle.normal_form.specs.Held.{Blank};
 ghost use Rattle.normal_form.specs.Steps.{Right};
 ghost use Rattle.normal_form.specs.Answers.{Answers};
@@ -45,7 +45,7 @@ fn read_and_write(
     buf: &mut [u8],
 ) -> Written
     requires { ⌜ Right (now table) ⌝ ∗ ⌜ Blank (now items) ⌝ ∗ ⌜ (length (now word) ≤ 4096) × (length (now word) ≤ length (now items)) ⌝ }
-    ensures { λ r. ⌜ Outcome (Answers phase) (now (word .entry)) (now (buf .entry)) r (now (buf .exit)) ⌝ }
+    ensures { λ r. ⌜ WordOutcome (Answers phase) (now (word .entry)) (now (buf .entry)) r (now (buf .exit)) ⌝ }
 {
     match reading::read_word(table, items, word) {
         Read::Outside(place) => refused(exact::LETTER, place),
@@ -56,7 +56,7 @@ fn read_and_write(
 // The answer to a word that is not too long, by an array as long as it needs.
 fn answer_by(table: &[u8], word: &[u8], phase: bool, buf: &mut [u8]) -> Written
     requires { ⌜ Right (now table) ⌝ ∗ ⌜ length (now word) ≤ 4096 ⌝ }
-    ensures { λ r. ⌜ Outcome (Answers phase) (now (word .entry)) (now (buf .entry)) r (now (buf .exit)) ⌝ }
+    ensures { λ r. ⌜ WordOutcome (Answers phase) (now (word .entry)) (now (buf .entry)) r (now (buf .exit)) ⌝ }
 {
     if word.len() > SHORT {
         let mut items = [EMPTY; 4096];
@@ -68,7 +68,7 @@ fn answer_by(table: &[u8], word: &[u8], phase: bool, buf: &mut [u8]) -> Written
 
 // Jobs 3 and 5: with the final W letters, or without.
 fn answer(word: &[u8], phase: bool, buf: &mut [u8]) -> Written
-    ensures { λ r. ⌜ Outcome (Answers phase) (now (word .entry)) (now (buf .entry)) r (now (buf .exit)) ⌝ }
+    ensures { λ r. ⌜ WordOutcome (Answers phase) (now (word .entry)) (now (buf .entry)) r (now (buf .exit)) ⌝ }
 {
     if word.len() > exact::LONGEST {
         return refused(exact::LONG, 0);
@@ -79,14 +79,14 @@ fn answer(word: &[u8], phase: bool, buf: &mut [u8]) -> Written
 
 // Job 3: the normal word with the word's matrix.
 pub fn normalise(word: &[u8], buf: &mut [u8]) -> Written
-    ensures { λ r. ⌜ Outcome Normalises (now (word .entry)) (now (buf .entry)) r (now (buf .exit)) ⌝ }
+    ensures { λ r. ⌜ NormaliseOutcome (now (word .entry)) (now (buf .entry)) r (now (buf .exit)) ⌝ }
 {
     answer(word, true, buf)
 }
 
 // Job 5: the same less its final W letters.
 pub fn phase_free(word: &[u8], buf: &mut [u8]) -> Written
-    ensures { λ r. ⌜ Outcome Shortens (now (word .entry)) (now (buf .entry)) r (now (buf .exit)) ⌝ }
+    ensures { λ r. ⌜ PhaseFreeOutcome (now (word .entry)) (now (buf .entry)) r (now (buf .exit)) ⌝ }
 {
     answer(word, false, buf)
 }

@@ -11,7 +11,7 @@ ghost use Rattle.normal_form.specs.Held.{Readable};
 ghost use Rattle.normal_form.specs.Syllables.{syllableWord};
 ghost use Rattle.normal_form.specs.Put.{Put};
 ghost use Rattle.normal_form.specs.Endings.{essesOf, aitchesOf, endWord, endSize, Sized, letterIn, Ended};
-ghost use Rattle.normal_form.specs.Answers.{codesWord, Writes};
+ghost use Rattle.normal_form.specs.Answers.{codesWord, WritesReading};
 use crate::Written;
 use crate::reading::Reading;
 use crate::reading::Syllable;
@@ -198,7 +198,7 @@ pub fn put_ending(buf: &mut [u8], at: usize, e: Ending) -> usize
 // The word of a reading, if there is room for it.
 pub fn write(table: &[u8], items: &[u8], r: Reading, phase: bool, buf: &mut [u8]) -> Written
     requires { ⌜ Right (now table) ⌝ ∗ ⌜ Readable (now items) r ⌝ ∗ ⌜ r .count ≤ 4096 ⌝ }
-    ensures { λ n. ⌜ Writes phase (now (items .entry)) r (now (buf .entry)) n (now (buf .exit)) ⌝ }
+    ensures { λ n. ⌜ WritesReading phase (now (items .entry)) r (now (buf .entry)) n (now (buf .exit)) ⌝ }
 {
     let tail = r.tail;
     let count = r.count;

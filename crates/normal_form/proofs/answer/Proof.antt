@@ -3,7 +3,7 @@ use mathlib.Core.Path.{refl}
 use native.Mathlib.Omega.{arith}
 use borrow.Author.Needs.{needs}
 use Rattle.clifford.specs.Cliffords.{mulC, invC, tconjC}
-use Rattle.normal_form.specs.Outcome.{long}
+use Rattle.normal_form.specs.Outcome.{too-long}
 use Rattle.normal_form.specs.Steps.{right}
 use Rattle.normal_form.proofs.answer.Statement.{statement}
 use Rattle.normal_form.proofs.answer.Tie as tie
@@ -12,14 +12,14 @@ refused-requires : tie.Need-refused-requires
 refused-requires c κs = search needs
 
 returns : tie.Need-returns
-returns c = long (omega arith) (c .refused .ensures) refl
+returns c = too-long _ _ _ _ (search needs) (search needs)
 
 slice-aggregate-answer-by : tie.Need-slice-aggregate-answer-by
 slice-aggregate-answer-by c = search needs
 
 answer-by-requires : tie.Need-answer-by-requires
 unfolding mulC invC tconjC
-answer-by-requires c κs = (right refl tt, omega (arith, c .before .before .if1 .left))
+answer-by-requires c κs = (right refl tt, search needs)
 
 same-length : tie.Need-same-length
 same-length c = search needs

@@ -1,5 +1,4 @@
 -- `normal_form::answer_by` meets its contract. Assumes nothing.
-use native.Mathlib.Omega.{arith}
 use borrow.Author.Needs.{needs}
 use Rattle.normal_form.specs.Held.{blank}
 use Rattle.normal_form.proofs.answer_by.Statement.{statement}
@@ -9,7 +8,7 @@ slice-aggregate-read-and-write : tie.Need-slice-aggregate-read-and-write
 slice-aggregate-read-and-write c = search needs
 
 read-and-write-requires : tie.Need-read-and-write-requires
-read-and-write-requires c κs = let the-pre = c .before .before .before .before .before .before .pre in (the-pre .0, (blank 4096, (the-pre .1, the-pre .1)))
+read-and-write-requires c κs = search (needs, blank)
 
 same-length : tie.Need-same-length
 same-length c = search needs
@@ -21,7 +20,7 @@ slice-aggregate-read-and-write-2 : tie.Need-slice-aggregate-read-and-write-2
 slice-aggregate-read-and-write-2 c = search needs
 
 read-and-write-requires-2 : tie.Need-read-and-write-requires-2
-read-and-write-requires-2 c κs = let the-pre = c .before .before .before .before .before .before .pre in (the-pre .0, (blank 64, (the-pre .1, omega (arith, c .before .before .if1 .left))))
+read-and-write-requires-2 c κs = search (needs, blank)
 
 same-length-2 : tie.Need-same-length-2
 same-length-2 c = search needs
