@@ -17,7 +17,6 @@ use Rattle.exact.specs.Meaning.Lent.{over}
 use Rattle.exact.specs.Cases.Letters.{lettersOf}
 use Rattle.exact.specs.Unique.Tails.{tees-append}
 use Rattle.exact.specs.Outcomes.Ladder.{Only}
-use Rattle.exact.specs.Outcomes.Places.{one-spelled}
 use Rattle.normal_form.specs.declared.reading.Read.{Read}
 use Rattle.normal_form.specs.declared.reading.Read.the-variants as Read
 use Rattle.normal_form.specs.declared.Written.{Written}
@@ -30,7 +29,7 @@ use Rattle.normal_form.specs.Held.{codes, Holds, Readable, count-is, cou
 use Rattle.normal_form.specs.Steps.{tailOf}
 use Rattle.normal_form.specs.Syllables.{syllableNumber, syllableWord, syllableOf, named}
 use Rattle.normal_form.specs.Outcome.{Normalises, Shortens, normalises-single, shortens-single, refused, counts}
-use Rattle.normal_form.specs.Outcome.{WordOutcome, RoomOutcome, outside-at, past-letters, no-room, written-whole, the-only}
+use Rattle.normal_form.specs.Outcome.{WordOutcome, RoomOutcome, outside-at, no-room, written-whole, answered-with}
 use Rattle.normal_form.specs.Letters.{Inside, Reads, bytes-back, none-outside}
 use Rattle.normal_form.specs.Put.{Put, put-more, put-length}
 use Rattle.normal_form.specs.Endings.{endWord, endSize, endingOf, Ended, end-length, end-tees, end-whole, textOf, text-less}
@@ -88,7 +87,8 @@ codes-word true (s ∷ ss) =
 codes-word false (s ∷ ss) =
     codesWord-append (codes false ss) (syllableNumber (named s) ∷ []) ∙ ap₂ (λ u v. u ++ v) (codes-word false ss) (one-code s)
 
-pub held-word : {items : List ℕ} {r : Reading} {st : State} → Holds items r st → codesWord (take (r .count) items) ≡ prefix (st .lead) (st .stack)
+pub held-word : {items : List ℕ} {r : Reading} {st : State} → Holds items r st
+    → codesWord (take (r .count) items) ≡ prefix (st .lead) (st .stack)
 held-word {items} {r} {st} h = ap codesWord (h .array .front) ∙ codes-word (st .lead) (st .stack)
 
 -- the letters of the code at a place, one code more, and still no more than all
@@ -101,22 +101,16 @@ codes-more items k h =
     ∙ codesWord-append (take k items) (getD items k 0 ∷ [])
     ∙ ap (λ u. codesWord (take k items) ++ u) (append-nil (codeWord items k))
 
+codes-part : (items : List ℕ) (k n : ℕ) → k ≤ n → length (codesWord (take k items)) ≤ length (codesWord (take n items))
+codes-part items k n l =
+    let sum : k + (n - k) ≡ n = omega arith in
+    rw (← sum) (simp (take-add, codesWord-append, length-append) (omega arith))
+
 pub codes-room : (items : List ℕ) (k n : ℕ) → k < n → k < length items
     → length (codesWord (take k items)) + length (codeWord items k) ≤ length (codesWord (take n items))
 codes-room items k n l h =
-    omega (arith, ap length (codes-more items k h), length-append (codesWord (take k items)) (codeWord items k), ap length whole, sizes)
-  where
-    sum : k + 1 + (n - (k + 1)) ≡ n
-    sum = omega arith
-
-    whole : codesWord (take n items) ≡ codesWord (take (k + 1) items) ++ codesWord (take (n - (k + 1)) (drop (k + 1) items))
-    whole =
-        ap (λ m. codesWord (take m items)) (sym sum)
-        ∙ ap codesWord (take-add (k + 1) (n - (k + 1)) items)
-        ∙ codesWord-append (take (k + 1) items) (take (n - (k + 1)) (drop (k + 1) items))
-
-    sizes : length (codesWord (take (k + 1) items)) ≤ length (codesWord (take (k + 1) items) ++ codesWord (take (n - (k + 1)) (drop (k + 1) items)))
-    sizes = simp length-append (omega arith)
+    let one = ap length (codes-more items k h) ∙ length-append (codesWord (take k items)) (codeWord items k) in
+    omega (arith, codes-part items (k + 1) n (omega arith))
 
 -- ---- bytes
 pub bytes-append : (u v : List Letter) → bytes (u ++ v) ≡ bytes u ++ bytes v
@@ -138,48 +132,55 @@ heldBytes items r = bytes (codesWord (take (r .count) items))
 held-length : {items : List ℕ} {r : Reading} {st : State} → Holds items r st → length (heldBytes items r) ≡ r .bytes
 held-length {items} {r} h = bytes-length (codesWord (take (r .count) items)) ∙ ap length (held-word h) ∙ sym (h .bytes-is)
 
--- e is the ending, and n its length
-module _ (phase : Bool) (items : List ℕ) (r : Reading) (e : Ending) (n : ℕ) (k : Ended phase (tailOf (r .tail)) e) (f : n ≡ endSize e) where
-  text-bytes : (st : State) → Holds items r st → heldBytes items r ++ bytes (endWord e) ≡ bytes (textOf phase st)
-  text-bytes st h =
-      ap₂ (λ x y. bytes x ++ bytes (endWord y)) (held-word h) (k .is ∙ ap (endingOf phase) (h .tail-is))
-      ∙ sym (bytes-append (prefix (st .lead) (st .stack)) (endWord (endingOf phase (st .q))))
+-- what is handed back for it, n being the length of the ending
+abbrev accepted : Reading → ℕ → Written
+accepted r n = record { refusal = Accepted; place = 0; bytes = r .bytes + n; tees = r .count }
 
-  size-is : (st : State) → Holds items r st → length (bytes (textOf phase st)) ≡ r .bytes + n
-  size-is st h =
-      ap length (sym (text-bytes st h))
-      ∙ length-append (heldBytes items r) (bytes (endWord e))
-      ∙ ap₂ (λ x y. x + y) (held-length h) (bytes-length (endWord e) ∙ end-length e ∙ sym f)
+-- e is the ending
+module _ (phase : Bool) (items : List ℕ) (r : Reading) (e : Ending) (n : ℕ) (k : Ended phase (tailOf (r .tail)) e) (f : n ≡ endSize e) where
+  module _ {st : State} (h : Holds items r st) where
+    text-bytes : heldBytes items r ++ bytes (endWord e) ≡ bytes (textOf phase st)
+    text-bytes =
+        ap₂ (λ x y. bytes x ++ bytes (endWord y)) (held-word h) (k .is ∙ ap (endingOf phase) (h .tail-is))
+        ∙ sym (bytes-append (prefix (st .lead) (st .stack)) (endWord (endingOf phase (st .q))))
+
+    size-is : length (bytes (textOf phase st)) ≡ r .bytes + n
+    size-is =
+        ap length (sym text-bytes)
+        ∙ length-append (heldBytes items r) (bytes (endWord e))
+        ∙ ap₂ (λ x y. x + y) (held-length h) (bytes-length (endWord e) ∙ end-length e ∙ sym f)
+
+    tees-is : r .count ≡ tees (textOf phase st)
+    tees-is =
+        let end = endingOf phase (st .q) in
+        let parts = tees-append (prefix (st .lead) (st .stack)) (endWord end) in
+        omega (arith, count-is h, prefix-tees (st .lead) (st .stack), end-tees end)
+
+    counts-is : accepted r n ≡ counts (textOf phase st)
+    counts-is =
+        ap₂ (λ b t. record { refusal = Accepted; place = 0; bytes = b; tees = t })
+        (omega (arith, size-is, bytes-length (textOf phase st))) tees-is
 
   pub size-fits : Readable items r → r .count ≤ 4096 → Fits w64 (r .bytes + n)
   size-fits h l = omega (arith, bytes-most (h .holds) l, k .few)
 
   module _ (old : List ℕ) where
     pub no-room-for : (x : Written) → length old < r .bytes + n → x ≡ refused Room 0 → WritesReading phase items r old x old
-    no-room-for x l g = record { writes = λ st h. no-room (textOf phase st) old x (omega (arith, size-is st h)) g }
+    no-room-for x l g = record { writes = λ st h. no-room (textOf phase st) old x (omega (arith, size-is h)) g }
 
     pub written-for : (mid : List ℕ) (at : ℕ) (new : List ℕ) (last : ℕ) → r .bytes + n ≤ length old
         → Put old 0 (heldBytes items r) mid at → Put mid at (bytes (endWord e)) new last
-        → WritesReading phase items r old (record { refusal = Accepted; place = 0; bytes = r .bytes + n; tees = r .count }) new
+        → WritesReading phase items r old (accepted r n) new
     written-for mid at new last l p q =
-        record { writes = λ st h. written-whole (textOf phase st) old _ new (omega (arith, size-is st h)) (numbers st h) (content st h) }
+        record {
+          writes = λ st h. written-whole (textOf phase st) old (accepted r n) new (omega (arith, size-is h)) (counts-is h) (content st h);
+        }
       where
         content : (st : State) → Holds items r st → new ≡ over (bytes (textOf phase st)) old
         content st h =
             put-more old 0 (heldBytes items r) mid at p (omega (arith, held-length h)) (bytes (endWord e)) new last q .is
-            ∙ ap (λ (x : List ℕ). x ++ drop (0 + length x) old) (text-bytes st h)
+            ∙ ap (λ (x : List ℕ). x ++ drop (0 + length x) old) (text-bytes h)
             ∙ ap (λ m. bytes (textOf phase st) ++ drop m old) (zero-add (length (bytes (textOf phase st))))
-
-        tees-is : (st : State) → Holds items r st → r .count ≡ tees (textOf phase st)
-        tees-is st h =
-            let end = endingOf phase (st .q) in
-            omega (arith, count-is h, tees-append (prefix (st .lead) (st .stack)) (endWord end), prefix-tees (st .lead) (st .stack), end-tees end)
-
-        numbers : (st : State) → Holds items r st
-            → _≡_ {A = Written} (record { refusal = Accepted; place = 0; bytes = r .bytes + n; tees = r .count }) (counts (textOf phase st))
-        numbers st h =
-            ap₂ (λ b t. record { refusal = Accepted; place = 0; bytes = b; tees = t })
-            (omega (arith, size-is st h, bytes-length (textOf phase st))) (tees-is st h)
 
 -- room for a reading's syllables, and then for its ending
 module _ (items : List ℕ) (r : Reading) (n : ℕ) (old : List ℕ) (h : Readable items r) (l : r .bytes + n ≤ length old) where
@@ -236,7 +237,6 @@ module _ (w items : List ℕ) (x : Read) (l : length w ≤ 4096) (s : Reads w it
     pub answered-by : (phase : Bool) (old : List ℕ) (n : Written) (new : List ℕ) → WritesReading phase items r old n new
         → WordOutcome (Answers phase) w old n new
     answered-by phase old n new p =
-        let text = textOf phase (run start (lettersOf w)) in
-        past-letters (Answers phase) w old n new l (none-outside w (reads .0))
-        (the-only (Spelled (Answers phase) w) (one-spelled (Answers phase) (answers-single phase) w)
-        text (spelled-answer phase w (reads .0)) old n new (p .writes (run start (lettersOf w)) (reads .1)))
+        let st = run start (lettersOf w) in
+        answered-with (answers-single phase) w old (textOf phase st) (spelled-answer phase w (reads .0)) n new l
+        (none-outside w (reads .0)) (p .writes st (reads .1))

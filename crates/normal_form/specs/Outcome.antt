@@ -97,11 +97,6 @@ abbrev pub RoomOutcome : (List Gate → Type 0) → List ℕ → Written → Lis
 RoomOutcome Answer old r new =
     Outcome (untouched refused old) (Writes bytes counts Answer old) (room bytes Answer old then none) (lent r new)
 
-module _ (Answer : List Gate → List Gate → Type 0) (w old : List ℕ) (r : Written) (new : List ℕ) where
-  pub past-letters : length w ≤ longest → ((p : ℕ) → FirstOutside job3 w p → ⊥) → RoomOutcome (Spelled Answer w) old r new
-      → WordOutcome Answer w old r new
-  past-letters l i x = Rung.passed (λ q h. omega (arith, h .0)) (Rung.passed i x)
-
 -- the answer is v alone
 module _ (v : List Gate) (old : List ℕ) (r : Written) where
   pub no-room : length old < length (bytes v) → r ≡ refused Room 0 → RoomOutcome (λ x. x ≡ v) old r old
@@ -113,13 +108,19 @@ module _ (v : List Gate) (old : List ℕ) (r : Written) where
       Rung.passed (λ p h. omega (arith, h .0 .more, ap (λ (x : List Gate). length (bytes x)) (h .0 .answer)))
       (record { v = v; answer = refl; is = ap₂ lent e f })
 
--- an answer that is the only one is v alone
-module _ (Answer : List Gate → Type 0) (one : Only Answer) (v : List Gate) (a : Answer v) (old : List ℕ) (r : Written) (new : List ℕ) where
-  alone : (x : List Gate) → x ≡ v → Answer x
-  alone x e = subst Answer (sym e) a
+-- an answer v that is the only one is v alone
+module _ {Answer : List Gate → List Gate → Type 0} (one : (u : List Gate) → Only (Answer u)) (w old : List ℕ) (v : List Gate)
+    (a : Spelled Answer w v) (r : Written) (new : List ℕ) where
+  alone : (x : List Gate) → x ≡ v → Spelled Answer w x
+  alone x e = subst (Spelled Answer w) (sym e) a
 
-  pub the-only : RoomOutcome (λ x. x ≡ v) old r new → RoomOutcome Answer old r new
-  the-only (Rung.given p h e) = Rung.given p (record { v = h .0 .v; answer = alone (h .0 .v) (h .0 .answer); more = h .0 .more }, h .1) e
-  the-only (Rung.passed n x) =
-      Rung.passed (λ p h. n p (record { v = h .0 .v; answer = one (h .0 .v) v (h .0 .answer) a; more = h .0 .more }, h .1))
+  below : RoomOutcome (λ x. x ≡ v) old r new → RoomOutcome (Spelled Answer w) old r new
+  below (Rung.given p h e) = Rung.given p (record { v = h .0 .v; answer = alone (h .0 .v) (h .0 .answer); more = h .0 .more }, h .1) e
+  below (Rung.passed n x) =
+      Rung.passed
+      (λ p h. n p (record { v = h .0 .v; answer = one-spelled Answer one w (h .0 .v) v (h .0 .answer) a; more = h .0 .more }, h .1))
       (record { v = x .v; answer = alone (x .v) (x .answer); is = x .is })
+
+  pub answered-with : length w ≤ longest → ((p : ℕ) → FirstOutside job3 w p → ⊥) → RoomOutcome (λ x. x ≡ v) old r new
+      → WordOutcome Answer w old r new
+  answered-with l i o = Rung.passed (λ q h. omega (arith, h .0)) (Rung.passed i (below o))

@@ -16,14 +16,13 @@ use Rattle.exact.specs.Meaning.Lent.{Lent, over, untouched, Writes}
 use Rattle.exact.specs.Matrices.Test.{sameTest, same-by}
 use Rattle.exact.specs.Unique.Normal.{normal-fewest}
 use Rattle.exact.specs.Outcomes.Ladder.{Only, always}
-use Rattle.exact.specs.Outcomes.Places.{one-spelled}
 use Rattle.exact.specs.Cases.Letters.{bytes-inj}
 use Rattle.exact.specs.Cases.NormalTest.{normalTest, normal-by}
 use Rattle.exact.specs.Cases.Table.{Row, Each, cases, Normalised, all-cases}
 use Rattle.normal_form.specs.declared.Written.{Written}
 use Rattle.normal_form.specs.Outcome.{Normalises, Shortens, normalises-single, shortens-single, refused, counts, lent}
 use Rattle.normal_form.specs.Outcome.{wordRefusals, WordOutcome, NormaliseOutcome, PhaseFreeOutcome, RoomOutcome}
-use Rattle.normal_form.specs.Outcome.{outcome-unique, handed-same, bytes-same, past-letters, no-room, written-whole, the-only}
+use Rattle.normal_form.specs.Outcome.{outcome-unique, handed-same, bytes-same, no-room, written-whole, answered-with}
 use Rattle.normal_form.specs.Readings.{start, run}
 use Rattle.normal_form.specs.Endings.{textOf}
 use Rattle.normal_form.specs.Letters.{Inside, none-outside}
@@ -74,14 +73,11 @@ short u = allowed u && leb (length (bytes u)) longest
 -- the answer v to such a word u: what is handed back, and nothing else, where it fits and where it does not
 module _ (Answer : List Letter → List Letter → Type 0) (one : (u : List Letter) → Only (Answer u)) (u v : List Letter) (old : List ℕ)
     (t : T (short u)) (a : Answer u v) where
-  answer-spelled : Spelled Answer (bytes u) v
-  answer-spelled = record { letters = u; spelled = refl; holds = a }
-
   by-room : (r : Written) (new : List ℕ) → RoomOutcome (λ x. x ≡ v) old r new → WordOutcome Answer (bytes u) old r new
-  by-room r new o =
+  by-room r new =
       let s = and-yes (allowed u) (leb (length (bytes u)) longest) t in
-      past-letters Answer (bytes u) old r new (leb→le (length (bytes u)) longest (s .1)) (none-outside (bytes u) (spells-by u (s .0)))
-      (the-only (Spelled Answer (bytes u)) (one-spelled Answer one (bytes u)) v answer-spelled old r new o)
+      answered-with one (bytes u) old v (record { letters = u; spelled = refl; holds = a }) r new
+      (leb→le (length (bytes u)) longest (s .1)) (none-outside (bytes u) (spells-by u (s .0)))
 
   refused-there : length old < length (bytes v) → WordOutcome Answer (bytes u) old (refused Room 0) old
   refused-there l = by-room (refused Room 0) old (no-room v old (refused Room 0) l refl)
