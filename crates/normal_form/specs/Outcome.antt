@@ -7,22 +7,23 @@ use native.Mathlib.Omega.{arith}
 use lib.ListN.{length}
 use Rattle.exact.specs.Meaning.Matrix.{Same}
 use Rattle.exact.specs.Meaning.Word.{Letter as Gate, word, tees, bytes, job3, FirstOutside, Spelled}
-use Rattle.exact.specs.Meaning.Normal.{Normal, PhaseFree, lessFinalW}
+use Rattle.exact.specs.Meaning.Normal.{NormalOf, PhaseFree, lessFinalW}
 use Rattle.exact.specs.Meaning.Limits.{longest, Accepted, Long, Letter, Room}
 use Rattle.exact.specs.Meaning.Outcome.{Refusals, none, _then_, Rung, Outcome}
-use Rattle.exact.specs.Meaning.Lent.{Lent, over, untouched, Writes}
+use Rattle.exact.specs.Meaning.Lent.{lent, over, untouched, Writes}
 use Rattle.exact.specs.Meaning.Refusals.{long, letter, room}
 use Rattle.exact.specs.Matrices.Same.{Same-sym, Same-trans}
 use Rattle.exact.specs.Unique.Normal.{unique}
 use Rattle.exact.specs.Outcomes.Ladder.{Only, one-outcome}
-use Rattle.exact.specs.Outcomes.Places.{one-plain, one-letter, one-spelled, one-written}
+use Rattle.exact.specs.Outcomes.Places.{one-plain, one-letter, one-spelled, one-normal}
+use Rattle.exact.specs.Outcomes.Lent as Lent
+use Rattle.exact.specs.Outcomes.Lent.{one-written, written-as}
 use Rattle.normal_form.specs.declared.Written.{Written}
 
 -- ---- the answer to a word u
 -- job 3: the normal word with its matrix
-pub record Normalises (u v : List Gate) : Type 0 where
-  pub normal : Normal v
-  pub same : Same (word u) (word v)
+abbrev pub Normalises : List Gate → List Gate → Type 0
+Normalises u v = NormalOf (word u) v
 
 -- job 5: that word less its final W letters
 pub record Shortens (u v : List Gate) : Type 0 where
@@ -36,10 +37,6 @@ refused n p = record { refusal = n; place = p; bytes = 0; tees = 0 }
 
 abbrev pub counts : List Gate → Written
 counts v = record { refusal = Accepted; place = 0; bytes = length v; tees = tees v }
-
--- with the lent bytes at the end
-abbrev pub lent : Written → List ℕ → Lent Written
-lent r new = record { handed = r; buffer = new }
 
 -- ---- jobs 3 and 5: long, letter, room, or the answer to the word's letters, written
 module _ (Answer : List Gate → List Gate → Type 0) (w old : List ℕ) where
@@ -57,7 +54,7 @@ PhaseFreeOutcome w old r new = WordOutcome Shortens w old r new
 
 -- ---- an answer is the only one
 pub normalises-single : (u : List Gate) → Only (Normalises u)
-normalises-single u v v′ p q = unique (p .normal) (q .normal) (Same-trans (Same-sym (p .same)) (q .same))
+normalises-single u = one-normal (word u)
 
 pub shortens-single : (u : List Gate) → Only (Shortens u)
 shortens-single u v v′ p q = sym (p .phase-free .less) ∙ ap lessFinalW whole ∙ q .phase-free .less
@@ -74,12 +71,6 @@ outcome-unique {Answer} one w old r new r′ new′ =
     (wordRefusals Answer w old) (one-plain, (one-letter, (one-plain, tt)))
     (λ h. one-written bytes counts (Spelled Answer w) old (one-spelled Answer one w)) (lent r new) (lent r′ new′)
 
-pub handed-same : {r r′ : Written} {new new′ : List ℕ} → lent r new ≡ lent r′ new′ → r ≡ r′
-handed-same e = ap (λ (x : Lent Written). x .handed) e
-
-pub bytes-same : {r r′ : Written} {new new′ : List ℕ} → lent r new ≡ lent r′ new′ → new ≡ new′
-bytes-same e = ap (λ (x : Lent Written). x .buffer) e
-
 -- ---- how each outcome is reached
 -- by a refusal the lent bytes stay
 stays : {r : Written} {n p : ℕ} (old : List ℕ) → r ≡ refused n p → lent r old ≡ untouched refused old n p
@@ -94,8 +85,7 @@ module _ (Answer : List Gate → List Gate → Type 0) (w old : List ℕ) (r : W
 
 -- the rungs below those of the word: room, or the answer written
 abbrev pub RoomOutcome : (List Gate → Type 0) → List ℕ → Written → List ℕ → Type 0
-RoomOutcome Answer old r new =
-    Outcome (untouched refused old) (Writes bytes counts Answer old) (room bytes Answer old then none) (lent r new)
+RoomOutcome Answer old r new = Lent.Written bytes counts Answer old refused (lent r new)
 
 -- the answer is v alone
 module _ (v : List Gate) (old : List ℕ) (r : Written) where
@@ -111,15 +101,10 @@ module _ (v : List Gate) (old : List ℕ) (r : Written) where
 -- an answer v that is the only one is v alone
 module _ {Answer : List Gate → List Gate → Type 0} (one : (u : List Gate) → Only (Answer u)) (w old : List ℕ) (v : List Gate)
     (a : Spelled Answer w v) (r : Written) (new : List ℕ) where
-  alone : (x : List Gate) → x ≡ v → Spelled Answer w x
-  alone x e = subst (Spelled Answer w) (sym e) a
-
   below : RoomOutcome (λ x. x ≡ v) old r new → RoomOutcome (Spelled Answer w) old r new
-  below (Rung.given p h e) = Rung.given p (record { v = h .0 .v; answer = alone (h .0 .v) (h .0 .answer); more = h .0 .more }, h .1) e
-  below (Rung.passed n x) =
-      Rung.passed
-      (λ p h. n p (record { v = h .0 .v; answer = one-spelled Answer one w (h .0 .v) v (h .0 .answer) a; more = h .0 .more }, h .1))
-      (record { v = x .v; answer = alone (x .v) (x .answer); is = x .is })
+  below =
+      written-as bytes counts counts (λ x. x ≡ v) (Spelled Answer w) old refused refused (λ x. x) (λ n p. refl) (λ x. refl)
+      (λ x e. subst (Spelled Answer w) (sym e) a) (λ x h. one-spelled Answer one w x v h a) (lent r new)
 
   pub answered-with : length w ≤ longest → ((p : ℕ) → FirstOutside job3 w p → ⊥) → RoomOutcome (λ x. x ≡ v) old r new
       → WordOutcome Answer w old r new

@@ -8,10 +8,11 @@ use lib.ListN.{length, getD, replicate}
 use Rattle.exact.specs.Meaning.Word.{Letter as Gate, I, H, S, X, W, T′, byte, job3, In, FirstOutside}
 use Rattle.exact.specs.Meaning.Limits.{longest, Accepted, Long, Letter}
 use Rattle.exact.specs.Meaning.Outcome.{Rung}
-use Rattle.exact.specs.Meaning.Lent.{untouched}
+use Rattle.exact.specs.Meaning.Lent.{lent, untouched}
 use Rattle.exact.specs.Outcomes.Places.{one-letter}
+use Rattle.exact.specs.Outcomes.Lent.{handed-same}
 use Rattle.normal_form.specs.declared.Written.{Written}
-use Rattle.normal_form.specs.Outcome.{refused, lent, handed-same, WordOutcome}
+use Rattle.normal_form.specs.Outcome.{refused, WordOutcome}
 
 -- ---- where the condition of a word's refusal holds, and none before it, nothing but that refusal is allowed
 module _ (Answer : List Gate → List Gate → Type 0) (w old : List ℕ) (r : Written) (new : List ℕ) where

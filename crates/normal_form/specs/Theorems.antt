@@ -12,17 +12,18 @@ use Rattle.exact.specs.Meaning.Matrix.{Same}
 use Rattle.exact.specs.Meaning.Word.{Letter, I, S, W, T′, word, tees, bytes, job3, Spelled}
 use Rattle.exact.specs.Meaning.Normal.{Normal, times, lessFinalW}
 use Rattle.exact.specs.Meaning.Limits.{longest, Accepted, Room}
-use Rattle.exact.specs.Meaning.Lent.{Lent, over, untouched, Writes}
+use Rattle.exact.specs.Meaning.Lent.{Lent, lent, over, untouched, Writes}
 use Rattle.exact.specs.Matrices.Test.{sameTest, same-by}
 use Rattle.exact.specs.Unique.Normal.{normal-fewest}
 use Rattle.exact.specs.Outcomes.Ladder.{Only, always}
 use Rattle.exact.specs.Cases.Letters.{bytes-inj}
 use Rattle.exact.specs.Cases.NormalTest.{normalTest, normal-by}
 use Rattle.exact.specs.Cases.Table.{Row, Each, cases, Normalised, all-cases}
+use Rattle.exact.specs.Outcomes.Lent.{handed-same, bytes-same}
 use Rattle.normal_form.specs.declared.Written.{Written}
-use Rattle.normal_form.specs.Outcome.{Normalises, Shortens, normalises-single, shortens-single, refused, counts, lent}
+use Rattle.normal_form.specs.Outcome.{Normalises, Shortens, normalises-single, shortens-single, refused, counts}
 use Rattle.normal_form.specs.Outcome.{wordRefusals, WordOutcome, NormaliseOutcome, PhaseFreeOutcome, RoomOutcome}
-use Rattle.normal_form.specs.Outcome.{outcome-unique, handed-same, bytes-same, no-room, written-whole, answered-with}
+use Rattle.normal_form.specs.Outcome.{outcome-unique, no-room, written-whole, answered-with}
 use Rattle.normal_form.specs.Readings.{start, run}
 use Rattle.normal_form.specs.Endings.{textOf}
 use Rattle.normal_form.specs.Letters.{Inside, none-outside}

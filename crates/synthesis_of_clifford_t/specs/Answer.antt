@@ -7,38 +7,43 @@ use native.Mathlib.Omega.{arith}
 use lib.IntN.{ℤ}
 use lib.ListN.{length, take, drop, getD, length-append}
 use lib.Seq.{take-at}
-use Rattle.exact.specs.Meaning.Matrix.{Same}
-use Rattle.exact.specs.Meaning.Word.{Letter, word, bytes, job3, In}
-use Rattle.exact.specs.Meaning.Normal.{Normal}
+use mir.Facts.{toZ-ofZ}
+use mir.Syntax.{w64}
+use mir.Val.{SFits}
+use Rattle.exact.specs.Meaning.Matrix.{Matrix, Same}
+use Rattle.exact.specs.Meaning.Word.{Letter, word, bytes, job3, In, Spelled}
+use Rattle.exact.specs.Meaning.Normal.{NormalOf}
 use Rattle.exact.specs.Meaning.Triple.{Triple, entries}
-use Rattle.exact.specs.Meaning.Triple as Triple
 use Rattle.exact.specs.Meaning.Limits.{deepest}
-use Rattle.exact.specs.Cases.Letters.{bytes-inj}
+use Rattle.exact.specs.Meaning.Outcome.{none, _then_}
+use Rattle.exact.specs.Meaning.Lent.{lent, untouched, Writes}
+use Rattle.exact.specs.Meaning.Refusals.{long, letter, room}
+use Rattle.exact.specs.Cases.Letters.{bytes-inj, bytes-length}
+use Rattle.exact.specs.Whole.Machine.{held}
 use Rattle.exact.specs.Matrices.Same.{Same-sym, Same-trans}
 use Rattle.exact.specs.Matrices.Triples.{unitary-same}
+use Rattle.exact.specs.Outcomes.Ladder.{Passed, skip}
+use Rattle.exact.specs.Outcomes.Lent.{Written, written-as}
 use Rattle.ring.specs.declared.ZOmega.{ZOmega}
 use Rattle.unitary.specs.declared.DOmegaUnitary.{DOmegaUnitary}
 use Rattle.unitary.specs.Triples.{triple, given}
 use Rattle.unitary.specs.Outcomes.{Answers}
-use Rattle.unitary.specs.Checks.{CheckOutcome, Taken, exponent-size}
+use Rattle.unitary.specs.Checks.{CheckOutcome, exponent-size}
+use Rattle.unitary.specs.Checked.{taken, refused-as, taken-as}
 use Rattle.unitary.specs.Acts.{Good}
-use Rattle.normal_form.specs.declared.Written.{Written}
+use Rattle.normal_form.specs.declared.Written as Job3
 use Rattle.normal_form.specs.Outcome as Normalised
-use Rattle.normal_form.specs.Outcome.{Normalises}
+use Rattle.normal_form.specs.Outcome.{Normalises, NormaliseOutcome}
 use Rattle.normal_form.specs.Put.{Put}
-use Rattle.normal_form.specs.Answers.{bytes-length}
 use Rattle.synthesis_of_clifford_t.specs.declared.Synthesis.{Synthesis}
 use Rattle.synthesis_of_clifford_t.specs.Step.{Ready}
 use Rattle.synthesis_of_clifford_t.specs.Steps.{letters, letters-same}
 use Rattle.synthesis_of_clifford_t.specs.Counts.{Plain, letters-plain, letters-length}
-use Rattle.synthesis_of_clifford_t.specs.Outcome as Outcome
-use Rattle.synthesis_of_clifford_t.specs.Outcome.{Answered, SynthesiseOutcome, refused}
+use Rattle.synthesis_of_clifford_t.specs.Outcome.{refused, counts, SynthesiseOutcome}
 
-pub record AnsweredBy (t : Triple) (old : List ℕ) (r : Synthesis) (new : List ℕ) : Type 0 where
-  pub normal-word : List Letter
-  pub normal : Normal normal-word
-  pub same : Same (word normal-word) (entries t)
-  pub answered : Answered normal-word old r new
+-- the normal word of a reduced triple, where there is room for it
+abbrev pub AnsweredBy : Triple → List ℕ → Synthesis → List ℕ → Type 0
+AnsweredBy t old r new = Written bytes counts (NormalOf (entries t)) old refused (lent r new)
 
 -- ---- the letters that stand at the start of a working buffer
 module _ (first : List ℕ) (u : List Letter) (work : List ℕ) (len : ℕ) (p : Put first 0 (bytes u) work len) where
@@ -60,45 +65,60 @@ plain-in [] p i h = absurd (omega arith)
 plain-in (l ∷ u) p zero h = record { letter-there = l; allowed = p .0; is = refl }
 plain-in (l ∷ u) p (suc i) h = plain-in u (p .1) i (omega arith)
 
-abbrev kept : Written → Synthesis
+abbrev kept : Job3.Written → Synthesis
 kept r = record { refusal = r .refusal; bytes = r .bytes; tees = r .tees }
 
-same-answer : (v : List Letter) (old : List ℕ) (r : Written) (new : List ℕ) → Normalised.Answered v old r new → Answered v old (kept r) new
-same-answer v old r new (Normalised.room l e f) = Outcome.room l (ap kept e) f
-same-answer v old r new (Normalised.accepted l e f) = Outcome.accepted l (ap kept e) f
+module _ (t : Triple) (ready : Ready t) (few : t .k ≤ deepest) (old : List ℕ) (r : Job3.Written) (new : List ℕ) where
+  -- neither too long nor with another letter
+  plain-passed : Passed (long (bytes (letters t)) then letter job3 (bytes (letters t)) then none)
+  plain-passed =
+      ((λ p h. omega (arith, h .0, bytes-length (letters t), letters-length t ready)),
+      ((λ p h. h .outside (plain-in (letters t) (letters-plain t ready) p (h .there))), tt))
 
-module _ (t : Triple) (ready : Ready t) (few : t .k ≤ deepest) (old : List ℕ) (r : Written) (new : List ℕ) where
-  at-letters : Normalised.Outcome Normalises (bytes (letters t)) old r new → AnsweredBy t old (kept r) new
-  at-letters (Normalised.long l e f) = absurd (omega (arith, bytes-length (letters t), letters-length t ready))
-  at-letters (Normalised.letter p l o e f) = absurd (o .outside (plain-in (letters t) (letters-plain t ready) p (o .there)))
-  at-letters (Normalised.answered u v l s a b) =
+  to-triple : (v : List Letter) → Spelled Normalises (bytes (letters t)) v → NormalOf (entries t) v
+  to-triple v s =
       record {
-        normal-word = v;
-        normal = a .normal;
-        same = Same-trans (Same-sym (a .same)) (subst (λ (x : List Letter). Same (word x) (entries t)) (sym (bytes-inj u (letters t) (s .spelled))) (letters-same t ready));
-        answered = same-answer v old r new b;
+        normal = s .holds .normal;
+        same = Same-trans (Same-sym (letters-same t ready))
+            (subst (λ (u : List Letter). Same (word u) (word v)) (bytes-inj (s .letters) (letters t) (s .spelled)) (s .holds .same));
       }
 
-  pub normalised : (w : List ℕ) → w ≡ bytes (letters t) → Normalised.Outcome Normalises w old r new → AnsweredBy t old (kept r) new
-  normalised w e o = at-letters (subst (λ (x : List ℕ). Normalised.Outcome Normalises x old r new) e o)
+  to-letters : (v : List Letter) → NormalOf (entries t) v → Spelled Normalises (bytes (letters t)) v
+  to-letters v n =
+      record { letters = letters t; spelled = refl; holds = record { normal = n .normal; same = Same-trans (letters-same t ready) (n .same) } }
+
+  at-letters : NormaliseOutcome (bytes (letters t)) old r new → AnsweredBy t old (kept r) new
+  at-letters o =
+      written-as bytes Normalised.counts counts (Spelled Normalises (bytes (letters t))) (NormalOf (entries t)) old Normalised.refused refused kept
+      (λ n p. refl) (λ v. refl) to-triple to-letters (lent r new)
+      (skip (untouched Normalised.refused old) (Writes bytes Normalised.counts (Spelled Normalises (bytes (letters t))) old)
+      (long (bytes (letters t)) then letter job3 (bytes (letters t)) then none) (room bytes (Spelled Normalises (bytes (letters t))) old then none)
+      plain-passed (lent r new) o)
+
+  pub normalised : (w : List ℕ) → w ≡ bytes (letters t) → NormaliseOutcome w old r new → AnsweredBy t old (kept r) new
+  normalised w e o = at-letters (subst (λ (x : List ℕ). NormaliseOutcome x old r new) e o)
 
 -- ---- from the check to job 4
-module _ {k : ℤ} (n : ℕ) {z w : ZOmega} (old : List ℕ) where
-  pub synthesise-refused : (r : ℕ) → CheckOutcome k z w r → (r ≡ 0 → ⊥) → SynthesiseOutcome k n z w old (refused r) old
-  synthesise-refused r (CheckOutcome.exponent f) h = Outcome.exponent f refl refl
-  synthesise-refused r (CheckOutcome.coefficient e f) h = Outcome.coefficient e f refl refl
-  synthesise-refused r (CheckOutcome.unitary e c f) h = Outcome.unitary e c (λ u. f (record { squares-sum = u .squares-sum; crosses-sum = u .crosses-sum })) refl refl
-  synthesise-refused r (CheckOutcome.accepted e c u) h = absurd (h refl)
+module _ (k : ℤ) (n : ℕ) (z w : ZOmega) (old : List ℕ) (fits : SFits w64 k) (r : ℕ) (checked : CheckOutcome (held w64 k) z w r) where
+  abbrev asked : Matrix
+  asked = entries (given k n z w)
 
-  module _ (taken : Taken k z w) (t : DOmegaUnitary) (a : Answers (given k n z w) (triple t)) where
-    unitary : Triple.Unitary (given k n z w)
-    unitary = record { squares-sum = taken .unitary-there .squares-sum; crosses-sum = taken .unitary-there .crosses-sum }
+  pub synthesise-refused : (r ≡ 0 → ⊥) → SynthesiseOutcome k n z w old (refused r 0) old
+  synthesise-refused = refused-as fits checked (untouched refused old) (Writes bytes counts (NormalOf asked) old) (room bytes (NormalOf asked) old then none)
+
+  module _ (yes : r ≡ 0) (t : DOmegaUnitary) (reduced : Answers (entries (given (held w64 k) n z w)) (triple t)) where
+    a : Answers asked (triple t)
+    a = subst (λ (y : ℤ). Answers (entries (given y n z w)) (triple t)) (toZ-ofZ fits) reduced
 
     pub reduced-good : Good t × (t .k ≤ deepest)
-    reduced-good = (
-      record { unitary = unitary-same (Same-sym (a .same)) unitary; reduced = a .reduced; n-small = a .n-small },
-      omega (arith, a .reduced .least .least (entries (given k n z w)) (a .same), exponent-size k (taken .exponent-in)),
-    )
+    reduced-good =
+        let h = taken fits checked yes in
+        (record { unitary = unitary-same (Same-sym (a .same)) (h .unitary-there n); reduced = a .reduced; n-small = a .n-small },
+        omega (arith, a .reduced .least .least asked (a .same), exponent-size k (h .exponent-in)))
 
-    pub synthesise-answered : (r : Synthesis) (new : List ℕ) → AnsweredBy (triple t) old r new → SynthesiseOutcome k n z w old r new
-    synthesise-answered r new b = Outcome.answered (taken .exponent-in) (taken .coefficients-in) unitary (b .normal-word) (b .normal) (Same-trans (b .same) (a .same)) (b .answered)
+    pub synthesise-answered : (o : Synthesis) (new : List ℕ) → AnsweredBy (triple t) old o new → SynthesiseOutcome k n z w old o new
+    synthesise-answered o new b =
+        taken-as fits checked (untouched refused old) (Writes bytes counts (NormalOf asked) old) (room bytes (NormalOf asked) old then none) yes (lent o new)
+        (written-as bytes counts counts (NormalOf (entries (triple t))) (NormalOf asked) old refused refused (λ x. x) (λ n p. refl) (λ v. refl)
+        (λ v h. record { normal = h .normal; same = Same-trans (Same-sym (a .same)) (h .same) })
+        (λ v h. record { normal = h .normal; same = Same-trans (a .same) (h .same) }) (lent o new) b)

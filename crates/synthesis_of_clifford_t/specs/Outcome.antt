@@ -1,71 +1,40 @@
--- What job 4 promises: which refusal exactly when, the length, the T letters, and every lent byte at the end; and that two allowed outcomes are equal.
--- Assumes nothing.
-use mathlib.Core.Path.{_≡_, sym, _∙_, subst}
-use mathlib.Core.List.{List, _++_}
-use Prim.Native.Nat.{ℕ, _<_, _≤_}
-use native.Mathlib.Omega.{arith}
+-- What job 4 promises: document 01's refusals in their order, or the normal word of the triple's matrix in the lent bytes; and that two allowed
+-- outcomes are equal. Assumes nothing.
+use mathlib.Core.Path.{_≡_}
+use mathlib.Core.List.{List}
+use Prim.Native.Nat.{ℕ}
 use lib.IntN.{ℤ}
-use lib.ListN.{length, drop}
-use Rattle.exact.specs.Meaning.Matrix.{Same}
-use Rattle.exact.specs.Meaning.Word.{Letter, word, tees, bytes}
-use Rattle.exact.specs.Meaning.Normal.{Normal}
+use lib.ListN.{length}
+use Rattle.exact.specs.Meaning.Word.{Letter, tees, bytes}
+use Rattle.exact.specs.Meaning.Normal.{NormalOf}
 use Rattle.exact.specs.Meaning.Triple.{entries}
-use Rattle.exact.specs.Meaning.Triple as Triple
-use Rattle.exact.specs.Meaning.Limits.{Accepted, Exponent, Coefficient, Unitary, Room}
-use Rattle.exact.specs.Matrices.Same.{Same-sym, Same-trans}
-use Rattle.exact.specs.Unique.Normal.{unique}
+use Rattle.exact.specs.Meaning.Limits.{Accepted}
+use Rattle.exact.specs.Meaning.Outcome.{Outcome, none, _then_, _also_}
+use Rattle.exact.specs.Meaning.Lent.{lent, untouched, Writes}
+use Rattle.exact.specs.Meaning.Refusals.{checks, room}
+use Rattle.exact.specs.Outcomes.Ladder.{one-outcome}
+use Rattle.exact.specs.Outcomes.Places.{one-plain, one-normal}
+use Rattle.exact.specs.Outcomes.Lent.{one-written}
+use Rattle.ring.specs.Number.{quad}
 use Rattle.ring.specs.declared.ZOmega.{ZOmega}
 use Rattle.unitary.specs.Triples.{given}
-use Rattle.unitary.specs.Outcomes.{InExponents, InCoefficients}
 use Rattle.synthesis_of_clifford_t.specs.declared.Synthesis.{Synthesis}
 
-abbrev pub handed : ℕ → ℕ → ℕ → Synthesis
-handed n l t = record { refusal = n; bytes = l; tees = t }
+abbrev pub refused : ℕ → ℕ → Synthesis
+refused n p = record { refusal = n; bytes = 0; tees = 0 }
 
-abbrev pub refused : ℕ → Synthesis
-refused n = handed n 0 0
+abbrev pub counts : List Letter → Synthesis
+counts v = record { refusal = Accepted; bytes = length v; tees = tees v }
 
--- the answer v, and the lent bytes before and after
-pub data Answered (v : List Letter) (old : List ℕ) (r : Synthesis) (new : List ℕ) : Type 0 where
-  room : length old < length v → r ≡ refused Room → new ≡ old → Answered v old r new
-  accepted : length v ≤ length old → r ≡ handed Accepted (length v) (tees v) → new ≡ bytes v ++ drop (length v) old → Answered v old r new
-
-pub data SynthesiseOutcome (k : ℤ) (n : ℕ) (z w : ZOmega) (old : List ℕ) (r : Synthesis) (new : List ℕ) : Type 0 where
-  exponent : (InExponents k → ⊥) → r ≡ refused Exponent → new ≡ old → SynthesiseOutcome k n z w old r new
-  coefficient : InExponents k → (InCoefficients z w → ⊥) → r ≡ refused Coefficient → new ≡ old → SynthesiseOutcome k n z w old r new
-  unitary : InExponents k → InCoefficients z w → (Triple.Unitary (given k n z w) → ⊥) → r ≡ refused Unitary → new ≡ old → SynthesiseOutcome k n z w old r new
-  answered : InExponents k → InCoefficients z w → Triple.Unitary (given k n z w) → (v : List Letter) → Normal v → Same (word v) (entries (given k n z w)) → Answered v old r new → SynthesiseOutcome k n z w old r new
+abbrev pub SynthesiseOutcome : ℤ → ℕ → ZOmega → ZOmega → List ℕ → Synthesis → List ℕ → Type 0
+SynthesiseOutcome k n z w old r new =
+    let m = entries (given k n z w) in
+    Outcome (untouched refused old) (Writes bytes counts (NormalOf m) old) (checks k (quad z) (quad w) also (room bytes (NormalOf m) old then none)) (lent r new)
 
 -- ---- two allowed outcomes are equal
-pub record Equal (r : Synthesis) (new : List ℕ) (r′ : Synthesis) (new′ : List ℕ) : Type 0 where
-  pub handed-same : r ≡ r′
-  pub bytes-same : new ≡ new′
-
-both : {r r′ x : Synthesis} {new new′ y : List ℕ} → r ≡ x → r′ ≡ x → new ≡ y → new′ ≡ y → Equal r new r′ new′
-both e f g h = record { handed-same = e ∙ sym f; bytes-same = g ∙ sym h }
-
-same-answer : (v : List Letter) (old : List ℕ) (r : Synthesis) (new : List ℕ) (r′ : Synthesis) (new′ : List ℕ) → Answered v old r new → Answered v old r′ new′ → Equal r new r′ new′
-same-answer v old r new r′ new′ (room l e f) (room l′ e′ f′) = both e e′ f f′
-same-answer v old r new r′ new′ (room l e f) (accepted l′ e′ f′) = absurd (omega arith)
-same-answer v old r new r′ new′ (accepted l e f) (room l′ e′ f′) = absurd (omega arith)
-same-answer v old r new r′ new′ (accepted l e f) (accepted l′ e′ f′) = both e e′ f f′
-
 module _ (k : ℤ) (n : ℕ) (z w : ZOmega) (old : List ℕ) (r : Synthesis) (new : List ℕ) (r′ : Synthesis) (new′ : List ℕ) where
-  pub synthesise-unique : SynthesiseOutcome k n z w old r new → SynthesiseOutcome k n z w old r′ new′ → Equal r new r′ new′
-  synthesise-unique (exponent f e g) (exponent f′ e′ g′) = both e e′ g g′
-  synthesise-unique (exponent f e g) (coefficient i f′ e′ g′) = absurd (f i)
-  synthesise-unique (exponent f e g) (unitary i c f′ e′ g′) = absurd (f i)
-  synthesise-unique (exponent f e g) (answered i c u v m s a) = absurd (f i)
-  synthesise-unique (coefficient i f e g) (exponent f′ e′ g′) = absurd (f′ i)
-  synthesise-unique (coefficient i f e g) (coefficient i′ f′ e′ g′) = both e e′ g g′
-  synthesise-unique (coefficient i f e g) (unitary i′ c f′ e′ g′) = absurd (f c)
-  synthesise-unique (coefficient i f e g) (answered i′ c u v m s a) = absurd (f c)
-  synthesise-unique (unitary i c f e g) (exponent f′ e′ g′) = absurd (f′ i)
-  synthesise-unique (unitary i c f e g) (coefficient i′ f′ e′ g′) = absurd (f′ c)
-  synthesise-unique (unitary i c f e g) (unitary i′ c′ f′ e′ g′) = both e e′ g g′
-  synthesise-unique (unitary i c f e g) (answered i′ c′ u v m s a) = absurd (f u)
-  synthesise-unique (answered i c u v m s a) (exponent f′ e′ g′) = absurd (f′ i)
-  synthesise-unique (answered i c u v m s a) (coefficient i′ f′ e′ g′) = absurd (f′ c)
-  synthesise-unique (answered i c u v m s a) (unitary i′ c′ f′ e′ g′) = absurd (f′ u)
-  synthesise-unique (answered i c u v m s a) (answered i′ c′ u′ v′ m′ s′ a′) =
-      same-answer v old r new r′ new′ a (subst (λ (x : List Letter). Answered x old r′ new′) (unique m′ m (Same-trans s′ (Same-sym s))) a′)
+  pub synthesise-unique : SynthesiseOutcome k n z w old r new → SynthesiseOutcome k n z w old r′ new′ → lent r new ≡ lent r′ new′
+  synthesise-unique =
+      let m = entries (given k n z w) in
+      one-outcome (untouched refused old) (Writes bytes counts (NormalOf m) old) (checks k (quad z) (quad w) also (room bytes (NormalOf m) old then none))
+      (one-plain, (one-plain, (one-plain, (one-plain, tt)))) (λ h. one-written bytes counts (NormalOf m) old (one-normal m)) (lent r new) (lent r′ new′)

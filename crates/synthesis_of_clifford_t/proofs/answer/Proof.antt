@@ -16,17 +16,16 @@ slice-aggregate-decompose-domega-unitary c = search needs
 decompose-domega-unitary-requires : tie.Need-decompose-domega-unitary-requires
 decompose-domega-unitary-requires c κs = search needs
 
+-- what stands in the working buffer behind the call
+module _ (c : tie.After-decompose-domega-unitary) where
+  abbrev put : Put (replicate {A = ℕ} 384 0) 0 (bytes (letters (triple (c .before .before .before .args .t)))) (c .decompose-domega-unitary .last .1 .0) (c .decompose-domega-unitary .result)
+  put = c .decompose-domega-unitary .ensures
+
 array-share-prefix-work : tie.Need-array-share-prefix-work
-array-share-prefix-work c =
-    let the-args = c .before .before .before .before .args in
-    let the-decompose-domega-unitary = c .before .decompose-domega-unitary in
-    len-inside (replicate {A = ℕ} 384 0) (letters (triple (the-args .t))) (the-decompose-domega-unitary .last .1 .0) (the-decompose-domega-unitary .result) (the-decompose-domega-unitary .ensures)
+array-share-prefix-work c = len-inside _ _ _ _ (put (c .before))
 
 slice-aggregate-normalise : tie.Need-slice-aggregate-normalise
-slice-aggregate-normalise c =
-    let the-args = c .before .before .before .before .before .args in
-    let the-decompose-domega-unitary = c .before .before .decompose-domega-unitary in
-    word-long (replicate {A = ℕ} 384 0) (letters (triple (the-args .t))) (the-decompose-domega-unitary .last .1 .0) (the-decompose-domega-unitary .result) (the-decompose-domega-unitary .ensures)
+slice-aggregate-normalise c = word-long _ _ _ _ (put (c .before .before))
 
 normalise-requires : tie.Need-normalise-requires
 normalise-requires c κs = search needs
@@ -36,11 +35,10 @@ same-length c = search needs
 
 returns : tie.Need-returns
 returns c =
-    let s = c .before .before .before .before .before .before .before .before .before in
-    let the-normalise = c .before .before .normalise in
-    let the-decompose-domega-unitary = c .before .before .before .before .before .before .decompose-domega-unitary in
-    let the-args = c .before .before .before .before .before .before .before .before .before .args in
-    normalised (triple (s .args .t)) (good-ready (s .pre .0)) (s .pre .1) (now (s .args .buf)) (the-normalise .result) (the-normalise .last .1 .0) (take (the-decompose-domega-unitary .result) (the-decompose-domega-unitary .last .1 .0)) (word-is (replicate {A = ℕ} 384 0) (letters (triple (the-args .t))) (the-decompose-domega-unitary .last .1 .0) (the-decompose-domega-unitary .result) (the-decompose-domega-unitary .ensures)) (the-normalise .ensures)
+    let d = c .before .before .before .before .before .before in
+    let s = d .before .before .before in
+    normalised (triple (s .args .t)) (good-ready (s .pre .0)) (s .pre .1) (now (s .args .buf)) (c .before .before .normalise .result) _ _
+    (word-is _ _ _ _ (put d)) (c .before .before .normalise .ensures)
 
 pub answer-spec : {M : Type 1} → statement M
 answer-spec =
