@@ -71,9 +71,10 @@ kept r = record { refusal = r .refusal; bytes = r .bytes; tees = r .tees }
 module _ (t : Triple) (ready : Ready t) (few : t .k ≤ deepest) (old : List ℕ) (r : Job3.Written) (new : List ℕ) where
   -- neither too long nor with another letter
   plain-passed : Passed (long (bytes (letters t)) then letter job3 (bytes (letters t)) then none)
-  plain-passed =
-      ((λ p h. omega (arith, h .0, bytes-length (letters t), letters-length t ready)),
-      ((λ p h. h .outside (plain-in (letters t) (letters-plain t ready) p (h .there))), tt))
+  plain-passed = (
+    (λ p h. omega (arith, h .0, bytes-length (letters t), letters-length t ready)),
+    ((λ p h. h .outside (plain-in (letters t) (letters-plain t ready) p (h .there))), tt),
+  )
 
   to-triple : (v : List Letter) → Spelled Normalises (bytes (letters t)) v → NormalOf (entries t) v
   to-triple v s =
@@ -112,9 +113,10 @@ module _ (k : ℤ) (n : ℕ) (z w : ZOmega) (old : List ℕ) (fits : SFits w64 k
 
     pub reduced-good : Good t × (t .k ≤ deepest)
     reduced-good =
-        let h = taken fits checked yes in
-        (record { unitary = unitary-same (Same-sym (a .same)) (h .unitary-there n); reduced = a .reduced; n-small = a .n-small },
-        omega (arith, a .reduced .least .least asked (a .same), exponent-size k (h .exponent-in)))
+        let h = taken fits checked yes in (
+          record { unitary = unitary-same (Same-sym (a .same)) (h .unitary-there n); reduced = a .reduced; n-small = a .n-small },
+          omega (arith, a .reduced .least .least asked (a .same), exponent-size k (h .exponent-in)),
+        )
 
     pub synthesise-answered : (o : Synthesis) (new : List ℕ) → AnsweredBy (triple t) old o new → SynthesiseOutcome k n z w old o new
     synthesise-answered o new b =

@@ -1,8 +1,11 @@
 -- `synthesis_of_clifford_t::answer` meets its contract: the letters stand at the start of the working buffer, and their normal word is the answer.
+use mathlib.Core.List.{List}
 use Prim.Native.Nat.{ℕ}
-use lib.ListN.{take, replicate}
+use lib.ListN.{replicate}
 use denote.Ref.{now}
+use Rattle.exact.specs.Meaning.Word.{Letter, bytes}
 use Rattle.unitary.specs.Triples.{triple}
+use Rattle.normal_form.specs.Put.{Put}
 use Rattle.synthesis_of_clifford_t.specs.Steps.{letters}
 use Rattle.synthesis_of_clifford_t.specs.Code.{good-ready}
 use Rattle.synthesis_of_clifford_t.specs.Answer.{word-is, len-inside, word-long, normalised}
@@ -18,14 +21,17 @@ decompose-domega-unitary-requires c κs = search needs
 
 -- what stands in the working buffer behind the call
 module _ (c : tie.After-decompose-domega-unitary) where
-  abbrev put : Put (replicate {A = ℕ} 384 0) 0 (bytes (letters (triple (c .before .before .before .args .t)))) (c .decompose-domega-unitary .last .1 .0) (c .decompose-domega-unitary .result)
+  abbrev u : List Letter
+  u = letters (triple (c .before .before .before .args .t))
+
+  put : Put (replicate {A = ℕ} 384 0) 0 (bytes u) (c .decompose-domega-unitary .last .1 .0) (c .decompose-domega-unitary .result)
   put = c .decompose-domega-unitary .ensures
 
 array-share-prefix-work : tie.Need-array-share-prefix-work
-array-share-prefix-work c = len-inside _ _ _ _ (put (c .before))
+array-share-prefix-work c = len-inside _ (u (c .before)) _ _ (put (c .before))
 
 slice-aggregate-normalise : tie.Need-slice-aggregate-normalise
-slice-aggregate-normalise c = word-long _ _ _ _ (put (c .before .before))
+slice-aggregate-normalise c = word-long _ (u (c .before .before)) _ _ (put (c .before .before))
 
 normalise-requires : tie.Need-normalise-requires
 normalise-requires c κs = search needs
@@ -38,7 +44,7 @@ returns c =
     let d = c .before .before .before .before .before .before in
     let s = d .before .before .before in
     normalised (triple (s .args .t)) (good-ready (s .pre .0)) (s .pre .1) (now (s .args .buf)) (c .before .before .normalise .result) _ _
-    (word-is _ _ _ _ (put d)) (c .before .before .normalise .ensures)
+    (word-is _ (u d) _ _ (put d)) (c .before .before .normalise .ensures)
 
 pub answer-spec : {M : Type 1} → statement M
 answer-spec =
