@@ -2,43 +2,46 @@
 -- job 3 and job 2 followed by job 4, each given 376 bytes, are accepted and give the same bytes, a normal word with the word's matrix; and two such words
 -- with one matrix give one outcome. Assumes nothing.
 use mathlib.Core.Path.{_≡_, refl, sym, _∙_, ap, subst}
-use mathlib.Core.List.{List, [], _∷_, _++_}
-use Prim.Native.Nat.{ℕ, zero, suc, _≤_, _<_}
+use mathlib.Core.List.{List, [], _∷_}
+use Prim.Native.Nat.{ℕ, _≤_, _<_}
 use native.Mathlib.Omega.{arith}
-use lib.Dec.{T, le→leb}
+use lib.Dec.{le→leb}
 use lib.IntN.{pos}
-use lib.ListN.{length, drop, getD}
-use Rattle.exact.specs.Meaning.Matrix.{Same}
-use Rattle.exact.specs.Meaning.Word.{Letter, word, tees, bytes, In, job2, job3}
-use Rattle.exact.specs.Meaning.Normal.{Normal}
-use Rattle.exact.specs.Meaning.Triple.{entries, Unitary, Reduced}
-use Rattle.exact.specs.Meaning.Endings.{Shallow, Deep, AllShallow, DeepAt}
+use lib.ListN.{length, drop}
+use Rattle.exact.specs.Meaning.Matrix.{Matrix, Same}
+use Rattle.exact.specs.Meaning.Word.{Letter, word, bytes, job2, job3, All, Spelled}
+use Rattle.exact.specs.Meaning.Normal.{Normal, NormalOf}
+use Rattle.exact.specs.Meaning.Triple.{entries, Unitary}
+use Rattle.exact.specs.Meaning.Endings.{Shallow, AllShallow, DeepAt}
 use Rattle.exact.specs.Meaning.Limits.{longest, deepest, enough, Accepted}
-use Rattle.exact.specs.Cases.Letters.{bytes-inj}
+use Rattle.exact.specs.Meaning.Outcome.{none, _then_, _also_}
+use Rattle.exact.specs.Meaning.Lent.{lent, over, untouched, Writes}
+use Rattle.exact.specs.Meaning.Refusals.{long, letter, deep, checks, TooMany, room}
+use Rattle.exact.specs.Cases.Letters.{bytes-inj, bytes-length, none-outside, all-job2}
 use Rattle.exact.specs.Matrices.Same.{Same-sym, Same-trans, Same-of}
 use Rattle.exact.specs.Matrices.Least.{least-unique, least-same}
 use Rattle.exact.specs.Matrices.Sizes.{z-sized, w-sized}
 use Rattle.exact.specs.Matrices.Triples.{word-triple, word-unitary, unitary-same}
 use Rattle.exact.specs.Unique.Normal.{unique}
+use Rattle.exact.specs.Outcomes.Ladder.{answered}
+use Rattle.exact.specs.Outcomes.Places.{not-both}
+use Rattle.exact.specs.Outcomes.Checked.{Taken, taken-checks}
+use Rattle.exact.specs.Outcomes.Lent.{handed-same, bytes-same}
+use Rattle.ring.specs.Number.{quad}
 use Rattle.unitary.specs.declared.FromGates.{FromGates}
 use Rattle.unitary.specs.Triples.{triple}
-use Rattle.unitary.specs.Outcomes.{InExponents, InCoefficients, MatrixOutcome}
+use Rattle.unitary.specs.Outcomes.{Answers, stopped, Multiplies, MatrixOutcome}
 use Rattle.normal_form.specs.declared.Written.{Written}
 use Rattle.normal_form.specs.Outcome as Job3
-use Rattle.normal_form.specs.Outcome.{Outcome, Normalises}
+use Rattle.normal_form.specs.Outcome.{Normalises, NormaliseOutcome, wordRefusals}
 use Rattle.synthesis_of_clifford_t.specs.declared.Synthesis.{Synthesis}
 use Rattle.synthesis_of_clifford_t.specs.Outcome as Job4
 use Rattle.synthesis_of_clifford_t.specs.Outcome.{SynthesiseOutcome}
 use Rattle.synthesis_of_clifford_t.specs.Synthesised.{word-enough}
 
 -- ---- the words that demand 3 speaks of
--- every letter is one of job 3
-abbrev pub Plain : List Letter → Type 0
-Plain [] = Unit {0}
-Plain (l ∷ u) = T (job3 l) × Plain u
-
 pub record Within (u : List Letter) : Type 0 where
-  pub plain : Plain u
+  pub plain : All job3 u
   pub few : length u ≤ longest
   pub shallow : AllShallow u
 
@@ -46,30 +49,15 @@ pub record Within (u : List Letter) : Type 0 where
 pub record Agreed (u v : List Letter) (old₁ old₂ : List ℕ) (first : Written) (new₁ : List ℕ) (matrix : FromGates) (second : Synthesis) (new₂ : List ℕ) : Type 0 where
   pub normal : Normal v
   pub same : Same (word v) (word u)
-  pub first-is : first ≡ Job3.handed Accepted 0 (length v) (tees v)
-  pub first-bytes : new₁ ≡ bytes v ++ drop (length v) old₁
+  pub first-is : first ≡ Job3.counts v
+  pub first-bytes : new₁ ≡ over (bytes v) old₁
   pub matrix-taken : matrix .refusal ≡ Accepted
-  pub second-is : second ≡ Job4.handed Accepted (length v) (tees v)
-  pub second-bytes : new₂ ≡ bytes v ++ drop (length v) old₂
+  pub second-is : second ≡ Job4.counts v
+  pub second-bytes : new₂ ≡ over (bytes v) old₂
 
 -- job 4 on the matrix that job 2 answers
 abbrev pub Synthesises : FromGates → List ℕ → Synthesis → List ℕ → Type 0
 Synthesises m old r new = SynthesiseOutcome (pos (m .matrix .k)) (m .matrix .n) (m .matrix .z) (m .matrix .w) old r new
-
--- ---- the letters
-plain-in : (u : List Letter) → Plain u → (i : ℕ) → i < length (bytes u) → In job3 (getD (bytes u) i 0)
-plain-in [] p i h = absurd (omega arith)
-plain-in (l ∷ u) p zero h = record { letter-there = l; allowed = p .0; is = refl }
-plain-in (l ∷ u) p (suc i) h = plain-in u (p .1) i (omega arith)
-
-any-in : (u : List Letter) (i : ℕ) → i < length (bytes u) → In job2 (getD (bytes u) i 0)
-any-in [] i h = absurd (omega arith)
-any-in (l ∷ u) zero h = record { letter-there = l; allowed = tt; is = refl }
-any-in (l ∷ u) (suc i) h = any-in u i (omega arith)
-
-pub length-bytes : (u : List Letter) → length (bytes u) ≡ length u
-length-bytes [] = refl
-length-bytes (l ∷ u) = ap suc (length-bytes u)
 
 -- the whole word is its first ending
 whole : (u : List Letter) → drop 0 u ≡ u
@@ -80,100 +68,90 @@ module _ (u : List Letter) (w : Within u) where
   depth : Shallow u
   depth = subst Shallow (whole u) (w .shallow .at 0 (omega arith))
 
-  room-enough : (v : List Letter) → Normal v → Same (word v) (word u) → length v ≤ enough
-  room-enough v n s = word-enough u v (depth .k) (depth .least) (depth .few) n s
+  -- the word's normal word has room
+  fits : (m : Matrix) → Same m (word u) → (old : List ℕ) → enough ≤ length old → (p : ℕ) → TooMany bytes (NormalOf m) old × (p ≡ 0) → ⊥
+  fits m s old l p h =
+      let a = h .0 .answer in
+      omega (arith, h .0 .more, bytes-length (h .0 .v), word-enough u (h .0 .v) (depth .k) (depth .least) (depth .few) (a .normal) (Same-trans (Same-sym (a .same)) s))
+
+  few-bytes : (p : ℕ) → (longest < length (bytes u)) × (p ≡ 0) → ⊥
+  few-bytes p h = omega (arith, h .0, bytes-length u, w .few)
+
+  -- what the bytes of the word spell is the word
+  of-word : {A : Type 0} {Of : List Letter → A → Type 0} {a : A} → Spelled Of (bytes u) a → Of u a
+  of-word {A} {Of} {a} s = subst (λ (x : List Letter). Of x a) (bytes-inj (s .letters) u (s .spelled)) (s .holds)
 
   -- ---- job 3
-  record Normalised (old : List ℕ) (r : Written) (new : List ℕ) : Type 0 where
-    v : List Letter
-    normal : Normal v
-    same : Same (word v) (word u)
-    is : r ≡ Job3.handed Accepted 0 (length v) (tees v)
-    written : new ≡ bytes v ++ drop (length v) old
-
-  job-3 : (old : List ℕ) (r : Written) (new : List ℕ) → enough ≤ length old → Outcome Normalises (bytes u) old r new → Normalised old r new
-  job-3 old r new h (Job3.long l e f) = absurd (omega (arith, length-bytes u, w .few))
-  job-3 old r new h (Job3.letter p l o e f) = absurd (o .outside (plain-in u (w .plain) p (o .there)))
-  job-3 old r new h (Job3.answered x v l z a b) = go b
+  job-3 : (old : List ℕ) (r : Written) (new : List ℕ) → enough ≤ length old → NormaliseOutcome (bytes u) old r new
+      → Writes bytes Job3.counts (Spelled Normalises (bytes u)) old (lent r new)
+  job-3 old r new l o =
+      answered (untouched Job3.refused old) (Writes bytes Job3.counts (Spelled Normalises (bytes u)) old) (wordRefusals Normalises (bytes u) old)
+      (few-bytes, (none-outside job3 u (w .plain), (has-room, tt))) (lent r new) o
     where
-      same : Same (word v) (word u)
-      same = Same-sym (subst (λ (y : List Letter). Same (word y) (word v)) (bytes-inj x u (z .spelled)) (a .same))
-
-      go : Job3.Answered v old r new → Normalised old r new
-      go (Job3.room m e f) = absurd (omega (arith, room-enough v (a .normal) same))
-      go (Job3.accepted m e f) = record { v = v; normal = a .normal; same = same; is = e; written = f }
+      has-room : (p : ℕ) → TooMany bytes (Spelled Normalises (bytes u)) old × (p ≡ 0) → ⊥
+      has-room p h =
+          fits (word u) (Same-of refl) old l p
+          (record { v = h .0 .v; answer = of-word (h .0 .answer); more = h .0 .more }, h .1)
 
   -- ---- job 2
-  record Multiplied (r : FromGates) : Type 0 where
-    taken : r .refusal ≡ Accepted
-    same : Same (entries (triple (r .matrix))) (word u)
-    reduced : Reduced (triple (r .matrix))
-
-  not-both : {x : List Letter} → Shallow x → Deep x → ⊥
-  not-both s d = omega (arith, s .few, d .many, least-unique (s .least) (d .least))
-
-  job-2 : (r : FromGates) → MatrixOutcome (bytes u) r → Multiplied r
-  job-2 r (MatrixOutcome.long l) = absurd (omega (arith, length-bytes u, w .few))
-  job-2 r (MatrixOutcome.letter l p o) = absurd (o .outside (any-in u p (o .there)))
-  job-2 r (MatrixOutcome.deep l x e p d) =
-      let d′ : DeepAt u p = subst (λ (y : List Letter). DeepAt y p) (bytes-inj x u e) d in
-      absurd (not-both (w .shallow .at p (omega (arith, d′ .there))) (d′ .deep))
-  job-2 r (MatrixOutcome.accepted l x e a t s d n) = record { taken = refl; same = subst (λ (y : List Letter). Same (entries (triple t)) (word y)) (bytes-inj x u e) s; reduced = d }
+  job-2 : (r : FromGates) → MatrixOutcome (bytes u) r → Multiplies u r
+  job-2 r o =
+      of-word
+      (answered stopped (Spelled Multiplies (bytes u)) (long (bytes u) then letter job2 (bytes u) then deep (bytes u) then none)
+      (few-bytes, (none-outside job2 u (all-job2 u), (not-deep, tt))) r o)
+    where
+      not-deep : (p : ℕ) → Spelled DeepAt (bytes u) p → ⊥
+      not-deep p s = let d = of-word s in not-both (w .shallow .at p (omega (arith, d .there))) (d .deep)
 
   pub taken-2 : (r : FromGates) → MatrixOutcome (bytes u) r → r .refusal ≡ Accepted
   taken-2 r h = job-2 r h .taken
 
   -- ---- job 4
-  module _ (m : FromGates) (h : Multiplied m) where
+  module _ (m : FromGates) (a : Answers (word u) (triple (m .matrix))) where
     k-few : m .matrix .k ≤ deepest
-    k-few = omega (arith, depth .few, least-unique (least-same (h .same) (h .reduced .least)) (depth .least))
+    k-few = omega (arith, depth .few, least-unique (least-same (a .same) (a .reduced .least)) (depth .least))
 
     matrix-unitary : Unitary (triple (m .matrix))
-    matrix-unitary = unitary-same (Same-trans (Same-of (word-triple u)) (Same-sym (h .same))) (word-unitary u)
+    matrix-unitary = unitary-same (Same-trans (Same-of (word-triple u)) (Same-sym (a .same))) (word-unitary u)
 
-    exponent-in : InExponents (pos (m .matrix .k))
-    exponent-in = record { low = record { le = le→leb 0 (m .matrix .k) (omega arith) }; high = record { le = le→leb (m .matrix .k) deepest k-few } }
+    taken : Taken (pos (m .matrix .k)) (quad (m .matrix .z)) (quad (m .matrix .w))
+    taken =
+        record {
+          exponent-in = record { low = record { le = le→leb 0 (m .matrix .k) (omega arith) }; high = record { le = le→leb (m .matrix .k) deepest k-few } };
+          coefficients-in = record { z-in = z-sized matrix-unitary 30 k-few; w-in = w-sized matrix-unitary 30 k-few };
+          unitary-there = λ n. record { squares-sum = matrix-unitary .squares-sum; crosses-sum = matrix-unitary .crosses-sum };
+        }
 
-    coefficients-in : InCoefficients (m .matrix .z) (m .matrix .w)
-    coefficients-in = record { z-in = z-sized matrix-unitary 30 k-few; w-in = w-sized matrix-unitary 30 k-few }
+    abbrev asked : Matrix
+    asked = entries (triple (m .matrix))
 
-    record Synthesised (old : List ℕ) (r : Synthesis) (new : List ℕ) : Type 0 where
-      v : List Letter
-      normal : Normal v
-      same : Same (word v) (word u)
-      is : r ≡ Job4.handed Accepted (length v) (tees v)
-      written : new ≡ bytes v ++ drop (length v) old
-
-    job-4 : (old : List ℕ) (r : Synthesis) (new : List ℕ) → enough ≤ length old → Synthesises m old r new → Synthesised old r new
-    job-4 old r new l (SynthesiseOutcome.exponent f e g) = absurd (f exponent-in)
-    job-4 old r new l (SynthesiseOutcome.coefficient i f e g) = absurd (f coefficients-in)
-    job-4 old r new l (SynthesiseOutcome.unitary i c f e g) = absurd (f matrix-unitary)
-    job-4 old r new l (SynthesiseOutcome.answered i c x v n s a) = go a
-      where
-        same′ : Same (word v) (word u)
-        same′ = Same-trans s (h .same)
-
-        go : Job4.Answered v old r new → Synthesised old r new
-        go (Job4.room b e f) = absurd (omega (arith, room-enough v n same′))
-        go (Job4.accepted b e f) = record { v = v; normal = n; same = same′; is = e; written = f }
+    job-4 : (old : List ℕ) (r : Synthesis) (new : List ℕ) → enough ≤ length old → Synthesises m old r new → Writes bytes Job4.counts (NormalOf asked) old (lent r new)
+    job-4 old r new l o =
+        let t = taken-checks (pos (m .matrix .k)) (quad (m .matrix .z)) (quad (m .matrix .w)) taken in
+        answered (untouched Job4.refused old) (Writes bytes Job4.counts (NormalOf asked) old)
+        (checks (pos (m .matrix .k)) (quad (m .matrix .z)) (quad (m .matrix .w)) also (room bytes (NormalOf asked) old then none))
+        (t .0, (t .1 .0, (t .1 .1 .0, (fits asked (a .same) old l, tt)))) (lent r new) o
 
 -- ---- the theorem
 module _ (u : List Letter) (w : Within u) (old₁ old₂ : List ℕ) (room₁ : enough ≤ length old₁) (room₂ : enough ≤ length old₂) where
-  pub demand-3 : (first : Written) (new₁ : List ℕ) (matrix : FromGates) (second : Synthesis) (new₂ : List ℕ) → Outcome Normalises (bytes u) old₁ first new₁ → MatrixOutcome (bytes u) matrix → Synthesises matrix old₂ second new₂ → (v : List Letter) × Agreed u v old₁ old₂ first new₁ matrix second new₂
+  pub demand-3 : (first : Written) (new₁ : List ℕ) (matrix : FromGates) (second : Synthesis) (new₂ : List ℕ)
+      → NormaliseOutcome (bytes u) old₁ first new₁ → MatrixOutcome (bytes u) matrix → Synthesises matrix old₂ second new₂
+      → (v : List Letter) × Agreed u v old₁ old₂ first new₁ matrix second new₂
   demand-3 first new₁ matrix second new₂ a b c =
       let x = job-3 u w old₁ first new₁ room₁ a in
+      let n = of-word u w (x .answer) in
       let m = job-2 u w matrix b in
-      let y = job-4 u w matrix m old₂ second new₂ room₂ c in
-      let e : y .v ≡ x .v = unique (y .normal) (x .normal) (Same-trans (y .same) (Same-sym (x .same))) in (
+      let y = job-4 u w matrix (m .answer) old₂ second new₂ room₂ c in
+      let e : y .v ≡ x .v = unique (y .answer .normal) (n .normal) (Same-trans (Same-sym (y .answer .same)) (Same-trans (m .answer .same) (n .same))) in (
         x .v,
         record {
-          normal = x .normal;
-          same = x .same;
-          first-is = x .is;
-          first-bytes = x .written;
+          normal = n .normal;
+          same = Same-sym (n .same);
+          first-is = handed-same (x .is);
+          first-bytes = bytes-same (x .is);
           matrix-taken = m .taken;
-          second-is = y .is ∙ ap (λ (l : List Letter). Job4.handed Accepted (length l) (tees l)) e;
-          second-bytes = y .written ∙ ap (λ (l : List Letter). bytes l ++ drop (length l) old₂) e;
+          second-is = handed-same (y .is) ∙ ap Job4.counts e;
+          second-bytes = bytes-same (y .is) ∙ ap (λ (l : List Letter). over (bytes l) old₂) e;
         },
       )
 
@@ -184,14 +162,16 @@ pub record OneOutcome (first first′ : Written) (new₁ new₁′ : List ℕ) (
   pub second-same : second ≡ second′
   pub second-bytes-same : new₂ ≡ new₂′
 
-pub one-outcome : {u u′ v v′ : List Letter} {old₁ old₂ : List ℕ} {first first′ : Written} {new₁ new₁′ : List ℕ} {m m′ : FromGates} {second second′ : Synthesis} {new₂ new₂′ : List ℕ} → Same (word u) (word u′) → Agreed u v old₁ old₂ first new₁ m second new₂ → Agreed u′ v′ old₁ old₂ first′ new₁′ m′ second′ new₂′ → OneOutcome first first′ new₁ new₁′ second second′ new₂ new₂′
-one-outcome {u} {u′} {v} {v′} {old₁} {old₂} s a b =
-    record {
-      first-same = a .first-is ∙ ap (λ (l : List Letter). Job3.handed Accepted 0 (length l) (tees l)) e ∙ sym (b .first-is);
-      first-bytes-same = a .first-bytes ∙ ap (λ (l : List Letter). bytes l ++ drop (length l) old₁) e ∙ sym (b .first-bytes);
-      second-same = a .second-is ∙ ap (λ (l : List Letter). Job4.handed Accepted (length l) (tees l)) e ∙ sym (b .second-is);
-      second-bytes-same = a .second-bytes ∙ ap (λ (l : List Letter). bytes l ++ drop (length l) old₂) e ∙ sym (b .second-bytes);
-    }
-  where
-    e : v ≡ v′
-    e = unique (a .normal) (b .normal) (Same-trans (a .same) (Same-trans s (Same-sym (b .same))))
+module _ {u u′ v v′ : List Letter} {old₁ old₂ : List ℕ} {first first′ : Written} {new₁ new₁′ : List ℕ} {m m′ : FromGates} {second second′ : Synthesis} {new₂ new₂′ : List ℕ} where
+  pub one-outcome : Same (word u) (word u′) → Agreed u v old₁ old₂ first new₁ m second new₂ → Agreed u′ v′ old₁ old₂ first′ new₁′ m′ second′ new₂′
+      → OneOutcome first first′ new₁ new₁′ second second′ new₂ new₂′
+  one-outcome s a b =
+      record {
+        first-same = a .first-is ∙ ap Job3.counts e ∙ sym (b .first-is);
+        first-bytes-same = a .first-bytes ∙ ap (λ (l : List Letter). over (bytes l) old₁) e ∙ sym (b .first-bytes);
+        second-same = a .second-is ∙ ap Job4.counts e ∙ sym (b .second-is);
+        second-bytes-same = a .second-bytes ∙ ap (λ (l : List Letter). over (bytes l) old₂) e ∙ sym (b .second-bytes);
+      }
+    where
+      e : v ≡ v′
+      e = unique (a .normal) (b .normal) (Same-trans (a .same) (Same-trans s (Same-sym (b .same))))

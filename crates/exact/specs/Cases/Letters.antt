@@ -2,11 +2,12 @@
 use mathlib.Core.Path.{_≡_, refl, sym, _∙_, ap, ap₂}
 use mathlib.Core.Bool.{Bool, true, false, cond, _&&_}
 use mathlib.Core.List.{List, [], _∷_}
-use Prim.Native.Nat.{ℕ, suc}
+use Prim.Native.Nat.{ℕ, zero, suc, _<_}
+use native.Mathlib.Omega.{arith}
 use lib.Dec.{T, eqb, eqb→eq}
-use lib.ListN.{length}
+use lib.ListN.{length, getD}
 use mir.Facts.{and-yes}
-use Rattle.exact.specs.Meaning.Word.{Letter, I, H, S, X, W, T′, byte, bytes}
+use Rattle.exact.specs.Meaning.Word.{Letter, I, H, S, X, W, T′, byte, bytes, job2, All, In, FirstOutside}
 
 -- the letter of a byte, I for any other byte
 abbrev pub letterOf : ℕ → Letter
@@ -37,6 +38,19 @@ bytes-inj u v e = sym (lettersOf-bytes u) ∙ ap lettersOf e ∙ lettersOf-bytes
 pub bytes-length : (u : List Letter) → length (bytes u) ≡ length u
 bytes-length [] = refl
 bytes-length (l ∷ u) = ap suc (bytes-length u)
+
+-- ---- no byte of letters of an alphabet is outside it
+all-in : (alphabet : Letter → Bool) (u : List Letter) → All alphabet u → (i : ℕ) → i < length (bytes u) → In alphabet (getD (bytes u) i 0)
+all-in alphabet [] p i h = absurd (omega arith)
+all-in alphabet (l ∷ u) p zero h = record { letter-there = l; allowed = p .0; is = refl }
+all-in alphabet (l ∷ u) p (suc i) h = all-in alphabet u (p .1) i (omega arith)
+
+pub none-outside : (alphabet : Letter → Bool) (u : List Letter) → All alphabet u → (i : ℕ) → FirstOutside alphabet (bytes u) i → ⊥
+none-outside alphabet u p i h = h .outside (all-in alphabet u p i (h .there))
+
+pub all-job2 : (u : List Letter) → All job2 u
+all-job2 [] = tt
+all-job2 (l ∷ u) = (tt, all-job2 u)
 
 -- ---- the tests
 abbrev pub eqLetter : Letter → Letter → Bool

@@ -82,6 +82,11 @@ job3 X = true
 job3 W = true
 job3 T′ = true
 
+-- every letter is of an alphabet
+abbrev pub All : (Letter → Bool) → List Letter → Type 0
+All alphabet [] = Unit {0}
+All alphabet (l ∷ u) = T (alphabet l) × All alphabet u
+
 -- a byte is in an alphabet: it is that of one of its letters
 pub record In (alphabet : Letter → Bool) (b : ℕ) : Type 0 where
   pub letter-there : Letter
