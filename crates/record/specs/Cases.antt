@@ -2,7 +2,7 @@
 use mathlib.Core.Path.{_≡_, refl}
 use mathlib.Core.List.{[], _∷_}
 use lib.IntN.{pos, negsuc}
-use Rattle.record.specs.Meaning.{digitsOf, digits, text, recordText, answerText}
+use Rattle.exact.specs.Meaning.Record.{digitsOf, digits, text, recordText, answerText}
 
 -- k=1, n=4, z=0,0,0,1, w=0,0,0,1, a line each
 example-record : recordText (record { k = pos 1; n = 4; z = record { a = pos 0; b = pos 0; c = pos 0; d = pos 1 }; w = record { a = pos 0; b = pos 0; c = pos 0; d = pos 1 } })

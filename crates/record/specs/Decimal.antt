@@ -9,7 +9,7 @@ use borrow.Author.Tests.{lt-ltb, le-ltb, ltb-true, ltb-false}
 use lib.Dec.{ltb}
 use lib.IntN.{ℤ, pos, negsuc}
 use lib.ListN.{length}
-use Rattle.record.specs.Meaning.{digitsOf, digits, text}
+use Rattle.exact.specs.Meaning.Record.{digitsOf, digits, text}
 
 -- ---- by one digit and by more, whatever the fuel
 one-of : (f n : ℕ) → n < 10 → digitsOf (suc f) n ≡ (48 + n) ∷ []

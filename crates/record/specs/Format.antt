@@ -5,7 +5,7 @@ use mathlib.Core.List.{List, [], _∷_, _++_, append-assoc}
 use Prim.Native.Nat.{ℕ, _≤_, _<_}
 use lib.IntN.{ℤ}
 use lib.ListN.{length, drop}
-use Rattle.record.specs.Meaning.{digits, text, InRange}
+use Rattle.exact.specs.Meaning.Record.{digits, text, InRange}
 use Rattle.record.specs.Decimal.{digits-once, text-once}
 
 pub record Format (A : Type 0) : Type 1 where

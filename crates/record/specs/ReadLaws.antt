@@ -11,7 +11,7 @@ use lib.Seq.{drop-cons}
 use mir.Syntax.{w64}
 use mir.Val.{SFits, ofZ, toZ}
 use mir.ValLaws.{toZ-pos, toZ-ofZ}
-use Rattle.record.specs.Meaning.{digits, text, InRange}
+use Rattle.exact.specs.Meaning.Record.{digits, text, InRange}
 use Rattle.record.specs.Decimal.{Digit, Digits, Grown, First, Ends, Goes, digits-one, digits-push, digits-digits, cut, goes-on, first-of, all-digits, no-digit, minus-first, cons-head, cons-tail, digits-once}
 use Rattle.record.specs.Format.{Found, Missing, natural, whole}
 use Rattle.record.specs.Read.{Taken}
