@@ -65,22 +65,23 @@ module _ (refusal : ℕ) (word : List ℕ) {old m₁ : List ℕ} {i : ℕ} (p : 
     lines-written q r s = written-both p (written-both q (written-both r s))
 
 -- ---- the outcome
-module _ (refusal : ℕ) (word : List ℕ) (t : ℕ) where
-  pub lines-few : refusal < 256 → length word ≤ enough → t < 2 ^ 64 → length (answerLines refusal word t) ≤ 512
-  lines-few h k l =
-      omega (
-        arith,
-        one-few refusal h,
-        two-few word k,
-        three-few t l,
-        four-few word k,
-        length-append (one refusal) (two word ++ (three t ++ four word)),
-        length-append (two word) (three t ++ four word),
-        length-append (three t) (four word),
-      )
+lines-few : (refusal : ℕ) (word : List ℕ) (t : ℕ) → refusal < 256 → length word ≤ enough → t < 2 ^ 64
+    → length (answerLines refusal word t) ≤ 512
+lines-few refusal word t h k l =
+    omega (
+      arith,
+      one-few refusal h,
+      two-few word k,
+      three-few t l,
+      four-few word k,
+      length-append (one refusal) (two word ++ (three t ++ four word)),
+      length-append (two word) (three t ++ four word),
+      length-append (three t) (four word),
+    )
 
 -- a text written at the start, which has room
-written-over : (s : List ℕ) {old new : List ℕ} {size : ℕ} → Written old 0 s new size → length s ≤ length old → (size ≡ length s) × (new ≡ over s old)
+written-over : (s : List ℕ) {old new : List ℕ} {size : ℕ} → Written old 0 s new size → length s ≤ length old
+    → (size ≡ length s) × (new ≡ over s old)
 written-over s {old} p h =
     let none : 0 + length s ≡ length s = omega arith in
     (p .behind ∙ none, p .is ∙ sets-eq s old 0 (omega arith) ∙ ap (λ n. s ++ drop n old) none)

@@ -26,7 +26,10 @@ use Rattle.record.specs.declared.lines.Four.the-variants.{Is as IsFour, 
 -- ---- a name and `=`
 module _ (s : List ℕ) (at name : ℕ) where
   pub name-past : length s ≤ at → Missing (named name) (drop at s)
-  name-past h = record { none = λ u rest ok p. let q : 0 ≡ suc (suc (length rest)) = ap length (sym (drop-of-length-le s h) ∙ p) in omega arith }
+  name-past h = record {
+    none = λ u rest ok p.
+        let q : 0 ≡ suc (suc (length rest)) = ap length (sym (drop-of-length-le s h) ∙ p) in omega arith;
+  }
 
   pub name-other : at < length s → (getD s at 0 ≡ name → ⊥) → Missing (named name) (drop at s)
   name-other h n = record { none = λ u rest ok p. n (cons-head (sym (byte-and s at h) ∙ p)) }

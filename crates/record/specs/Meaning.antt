@@ -1,4 +1,4 @@
--- What the crate answers: its struct's numbers, what reading hands back, and what writing leaves, by document 01's section "The bench program".
+-- What reading a bench record hands back, and what writing its answer leaves, as document 01's section "The bench program" has them.
 -- The record and its answer in bytes are crate exact's (Meaning.Record).
 use mathlib.Core.Path.{_≡_}
 use mathlib.Core.List.{List}

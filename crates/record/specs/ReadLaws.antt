@@ -67,7 +67,8 @@ reading-first s at most v x h is-d e =
 
     digits-of : getD s at 0 ∷ [] ≡ digits v
     digits-of =
-        ap (λ b. b ∷ []) (sym (digit-of (getD s at 0) v (t .digit) (omega (arith, t .is)))) ∙ sym (digits-one v (omega (arith, t .is, t .digit)))
+        ap (λ b. b ∷ []) (sym (digit-of (getD s at 0) v (t .digit) (omega (arith, t .is))))
+        ∙ sym (digits-one v (omega (arith, t .is, t .digit)))
 
 module _ (s : List ℕ) (at most v i : ℕ) (r : Reading s at most v i) (h : i < length s) where
   abbrev byte : ℕ
@@ -107,7 +108,8 @@ module _ (s : List ℕ) (at most v i : ℕ) (r : Reading s at most v i) (h : i <
       stop : Grown v byte most → ⊥
       stop = subst (PushIs v byte most) h′ is-v
 
-      go : (n : ℕ) (rest : List ℕ) → n ≤ most → Ends (digits n) (digits v) rest (drop (i + 1) s) e byte ⊎ Goes (digits n) (digits v) byte → ⊥
+      go : (n : ℕ) (rest : List ℕ) → n ≤ most
+          → Ends (digits n) (digits v) rest (drop (i + 1) s) e byte ⊎ Goes (digits n) (digits v) byte → ⊥
       go n rest ok (inl x) = q (x .end)
       go n rest ok (inr x) =
           let w = goes-on v byte n (x .more) (x .is) in
@@ -196,7 +198,8 @@ module _ (s l : List ℕ) (e : ℕ) (x : Natural) (is-v : NaturalIs s l e (2 ^ 6
     pub negative-zero : e < 48 → v ≡ 0 → Missing (whole e) (45 ∷ l)
     negative-zero h q =
         negatives l e (λ n rest ok p.
-        let same = sym (append-assoc (digits v) (e ∷ []) (drop next s)) ∙ sym (found-n .is) ∙ p ∙ append-assoc (digits (suc n)) (e ∷ []) rest in
+        let begins = sym (append-assoc (digits v) (e ∷ []) (drop next s)) ∙ sym (found-n .is) in
+        let same = begins ∙ p ∙ append-assoc (digits (suc n)) (e ∷ []) rest in
         omega (arith, digits-once e v (suc n) (drop next s) rest h same .0))
 
     module _ (n : v ≡ 0 → ⊥) where

@@ -12,8 +12,8 @@ use Rattle.exact.specs.Meaning.Refusals.{malformed}
 use Rattle.exact.specs.Outcomes.Ladder.{Only, one-outcome}
 use Rattle.exact.specs.Outcomes.Places.{one-plain}
 use Rattle.record.specs.Meaning.{numbers, refusedRecord, Reads, ReadOutcome}
-use Rattle.record.specs.Format.{Format, Found, Missing, Once, Four, before, named, natural, whole, fourNumbers, kLine, nLine, ringLine}
-use Rattle.record.specs.Format.{once-named, once-natural, once-whole, once-both}
+use Rattle.record.specs.Format.{Format, Found, Missing, Once, once-named, once-natural, once-whole, once-both}
+use Rattle.record.specs.Format.{Four, before, named, natural, whole, fourNumbers, kLine, nLine, ringLine}
 use Rattle.record.specs.declared.Record.{Record}
 
 -- ---- the lines together
@@ -36,7 +36,8 @@ abbrev pub lines : Numbers → Lines
 lines x = ((tt, x .k), ((tt, x .n), ((tt, ring (x .z)), (tt, ring (x .w)))))
 
 -- four texts parted by commas, and LF, however they are joined
-joined : (a b c d : List ℕ) → (a ++ (44 ∷ (b ++ (44 ∷ (c ++ (44 ∷ d)))))) ++ (10 ∷ []) ≡ (a ++ (44 ∷ [])) ++ ((b ++ (44 ∷ [])) ++ ((c ++ (44 ∷ [])) ++ (d ++ (10 ∷ []))))
+joined : (a b c d : List ℕ) → (a ++ (44 ∷ (b ++ (44 ∷ (c ++ (44 ∷ d)))))) ++ (10 ∷ [])
+    ≡ (a ++ (44 ∷ [])) ++ ((b ++ (44 ∷ [])) ++ ((c ++ (44 ∷ [])) ++ (d ++ (10 ∷ []))))
 joined a b c d = simp append-assoc
 
 ring-shown : (name : ℕ) (x : Ω) → line (name ∷ []) (four x) ≡ ringLine name .show (tt, ring x)
@@ -44,7 +45,8 @@ ring-shown name x = ap (λ l. name ∷ (61 ∷ l)) (joined (text (x .a)) (text (
 
 shown : (x : Numbers) → recordText x ≡ allLines .show (lines x)
 shown x =
-    ap₂ (λ z w. line (107 ∷ []) (text (x .k)) ++ (line (110 ∷ []) (digits (x .n)) ++ (z ++ w))) (ring-shown 122 (x .z)) (ring-shown 119 (x .w))
+    ap₂ (λ z w. line (107 ∷ []) (text (x .k)) ++ (line (110 ∷ []) (digits (x .n)) ++ (z ++ w)))
+    (ring-shown 122 (x .z)) (ring-shown 119 (x .w))
 
 -- ---- it determines the numbers
 pub once-k : Once kLine
@@ -66,7 +68,10 @@ pub once-ring : (name : ℕ) → Once (ringLine name)
 once-ring name = once-both (named name) fourNumbers (once-named name) once-four
 
 once-all : Once allLines
-once-all = once-both kLine nzwLines once-k (once-both nLine zwLines once-n (once-both (ringLine 122) (ringLine 119) (once-ring 122) (once-ring 119)))
+once-all =
+    once-both kLine nzwLines once-k
+    (once-both nLine zwLines once-n
+    (once-both (ringLine 122) (ringLine 119) (once-ring 122) (once-ring 119)))
 
 -- the record of a refusal number and the lines' numbers
 abbrev build : ℕ → Lines → Record

@@ -15,7 +15,8 @@ use Rattle.record.specs.Meaning.{numbers, refusedRecord, ReadOutcome}
 use Rattle.record.specs.Format.{Found, Missing, kLine, nLine, ringLine, found-both, missing-first, missing-second}
 use Rattle.record.specs.Read.{KIs, NIs, RingIs}
 use Rattle.record.specs.LineLaws.{held-in}
-use Rattle.record.specs.RecordLaws.{lines, allLines, nzwLines, zwLines, once-k, once-n, once-ring, no-record, more-behind, right-record}
+use Rattle.record.specs.RecordLaws.{lines, allLines, nzwLines, zwLines, once-k, once-n, once-ring}
+use Rattle.record.specs.RecordLaws.{no-record, more-behind, right-record}
 use Rattle.record.specs.declared.Record.{Record}
 use Rattle.record.specs.declared.decimal.Natural.{Natural}
 use Rattle.record.specs.declared.decimal.Natural.the-variants.{Is, No}
@@ -65,19 +66,27 @@ module _ (s : List ℕ) (r : Record) (x : Whole) (is-k : KIs s s x) where
         pub no-z : u ≡ NoFour → r ≡ refusedRecord Malformed 0 → ReadOutcome s r
         no-z e = lacks (after-n (missing-first (ringLine 122) (ringLine 119) (subst (RingIs s (drop third s) 122) e is-z)))
 
-        module _ (za zb zc zd : ℤ) (fourth : ℕ) (has-z : u ≡ IsFour za zb zc zd fourth) (v : Four) (is-w : RingIs s (drop fourth s) 119 v) where
+        module _
+            (za zb zc zd : ℤ) (fourth : ℕ) (has-z : u ≡ IsFour za zb zc zd fourth)
+            (v : Four) (is-w : RingIs s (drop fourth s) 119 v)
+            where
           found-z : Found (ringLine 122) (drop third s) s (tt, (za, (zb, (zc, zd)))) fourth
           found-z = subst (RingIs s (drop third s) 122) has-z is-z
 
           pub no-w : v ≡ NoFour → r ≡ refusedRecord Malformed 0 → ReadOutcome s r
-          no-w e = lacks (after-n (missing-second (ringLine 122) (ringLine 119) (once-ring 122) found-z (subst (RingIs s (drop fourth s) 119) e is-w)))
+          no-w e =
+              let none = subst (RingIs s (drop fourth s) 119) e is-w in
+              lacks (after-n (missing-second (ringLine 122) (ringLine 119) (once-ring 122) found-z none))
 
           module _ (wa wb wc wd : ℤ) (end : ℕ) (has-w : v ≡ IsFour wa wb wc wd end) where
             abbrev got : Numbers
             got = record { k = k; n = n; z = record { a = za; b = zb; c = zc; d = zd }; w = record { a = wa; b = wb; c = wc; d = wd } }
 
             found-all : Found allLines s s (lines got) end
-            found-all = found-both kLine nzwLines found-k (found-both nLine zwLines found-n (found-both (ringLine 122) (ringLine 119) found-z found-w))
+            found-all =
+                found-both kLine nzwLines found-k
+                (found-both nLine zwLines found-n
+                (found-both (ringLine 122) (ringLine 119) found-z found-w))
               where
                 found-w : Found (ringLine 119) (drop fourth s) s (tt, (wa, (wb, (wc, wd)))) end
                 found-w = subst (RingIs s (drop fourth s) 119) has-w is-w

@@ -1,4 +1,5 @@
--- What the writers leave: a text in place of as many bytes from a place on; and that two writes in a row are one of both texts. Assumes nothing.
+-- What the writers leave: a text in place of as many bytes from a place on; and that two writes in a row are one of both texts.
+-- Assumes nothing.
 use mathlib.Core.Path.{_≡_, refl, sym, _∙_, ap, ap₂, subst, subst₂}
 use mathlib.Core.List.{List, [], _∷_, _++_}
 use Prim.Native.Nat.{ℕ, zero, suc, _+_, _-_, _*_, _/_, _%_, _^_, _≤_, _<_}

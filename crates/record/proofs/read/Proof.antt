@@ -1,5 +1,5 @@
--- `read` meets its contract: where a line is missing no numbers have the input as their text, and where all are found these have. Assumes nothing.
-use native.Mathlib.Omega.{arith}
+-- `read` meets its contract: where a line is missing no numbers have the input as their text, and where all are found these have.
+-- Assumes nothing.
 use Rattle.record.specs.Returns.{no-k, no-n, no-z, no-w, n-fits, goes-on, all-read}
 use borrow.Author.Needs.{needs}
 use Rattle.record.proofs.read.Statement.{statement}

@@ -1,9 +1,11 @@
--- `decimal::natural_at` meets its contract. The loop's invariant: the bytes from `at` to `i` are the digits of `value`, which is at most `most`. Assumes nothing.
+-- `decimal::natural_at` meets its contract.
+-- The loop's invariant: the bytes from `at` to `i` are the digits of `value`, which is at most `most`. Assumes nothing.
 use borrow.Author.Needs.{needs}
 use native.Mathlib.Omega.{arith}
 use Prim.Native.Nat.{_-_}
 use lib.ListN.{length}
-use Rattle.record.specs.ReadLaws.{Reading, reading-first, reading-more, reading-found, reading-stop, reading-end, natural-past, natural-first}
+use Rattle.record.specs.ReadLaws.{Reading, reading-first, reading-more, reading-found, reading-stop, reading-end}
+use Rattle.record.specs.ReadLaws.{natural-past, natural-first}
 use Rattle.record.proofs.decimal.natural_at.Statement.{statement}
 use Rattle.record.proofs.decimal.natural_at.Tie as tie
 

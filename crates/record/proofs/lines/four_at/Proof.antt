@@ -54,7 +54,9 @@ returns-4 c =
     let the-c = c .before .before .before .before in
     let the-b = the-c .before .before .before .before in
     let the-a = the-b .before .before .before .before in
-    search (needs, no-d, the-a .a .given .1, the-a .before .before .whole-at .ensures, the-b .b .given .1, the-b .before .before .whole-at2 .ensures)
+    let first = the-a .before .before .whole-at in
+    let second = the-b .before .before .whole-at2 in
+    search (needs, no-d, first .ensures, the-a .a .given .1, second .ensures, the-b .b .given .1)
 
 returns-5 : tie.Need-returns-5
 returns-5 c = search (needs, four-found)

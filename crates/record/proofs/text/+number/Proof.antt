@@ -1,4 +1,5 @@
--- The proof of the cycle of calls {text::number}. The measure is the number. The tenth's digits and the last are the number's. Assumes nothing.
+-- The proof of the cycle of calls {text::number}. The measure is the number. The tenth's digits and the last are the number's.
+-- Assumes nothing.
 use native.Mathlib.Omega.{arith}
 use borrow.Author.Needs.{needs}
 use lib.ListN.{length-set}
@@ -68,7 +69,8 @@ number-number-requires : (t : ℕ) → number-lts.Need-number-requires (
   number-below t,
   number.Post,
 ) (number-at t) number.Post
-number-number-requires t c κs = (rw (← (c .before .before .before .pre .0)) (omega arith), omega (arith, length-more _ (c .before .if1 .left)))
+number-number-requires t c κs =
+    (rw (← (c .before .before .before .pre .0)) (omega arith), omega (arith, length-more _ (c .before .if1 .left)))
 
 number-digit-of-requires-2 : (t : ℕ) → number-lts.Need-digit-of-requires-2 (
   digit-of-reads.Asked,
