@@ -1,6 +1,6 @@
 -- `read` meets its contract: where a line is missing no numbers have the input as their text, and where all are found these have.
 -- Assumes nothing.
-use Rattle.record.specs.Returns.{no-k, no-n, no-z, no-w, n-fits, goes-on, all-read}
+use Rattle.record.specs.Returns.{no-k, no-n, no-z, no-w, n-fits, byte-behind, all-read}
 use borrow.Author.Needs.{needs}
 use Rattle.record.proofs.read.Statement.{statement}
 use Rattle.record.proofs.read.Tie as tie
@@ -73,7 +73,7 @@ returns-5 c =
     let z = c .before .before .before .before .before in
     let n = z .before .before .before .before .before in
     let k = n .before .before .before .before .before in
-    search (needs, goes-on, k .k .given .1, k .before .before .k-at .ensures)
+    search (needs, byte-behind, k .k .given .1, k .before .before .k-at .ensures)
 
 cast-n : tie.Need-cast-n
 cast-n c = search (needs, n-fits)
