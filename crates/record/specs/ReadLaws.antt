@@ -145,20 +145,20 @@ module _ (s : List ℕ) (at most e : ℕ) (l : e < 48) where
   }
 
 -- ---- with no minus
-module _ (s : List ℕ) (at e : ℕ) (x : Natural) (is-v : NaturalIs s (drop at s) e (2 ^ 63 - 1) x) where
-  pub positive-none : at < length s → (getD s at 0 ≡ 45 → ⊥) → x ≡ No → Missing (whole e) (drop at s)
-  positive-none h n q = record { none = none }
+module _ (s : List ℕ) (at e most : ℕ) (x : Natural) (is-v : NaturalIs s (drop at s) e most x) where
+  pub positive-none : 2 ^ 63 ≤ most + 1 → at < length s → (getD s at 0 ≡ 45 → ⊥) → x ≡ No → Missing (whole e) (drop at s)
+  positive-none l h n q = record { none = none }
     where
-      m : Missing (natural (2 ^ 63 - 1) e) (drop at s)
-      m = subst (NaturalIs s (drop at s) e (2 ^ 63 - 1)) q is-v
+      m : Missing (natural most e) (drop at s)
+      m = subst (NaturalIs s (drop at s) e most) q is-v
 
       none : (z : ℤ) (rest : List ℕ) → InRange z → drop at s ≡ (text z ++ (e ∷ [])) ++ rest → ⊥
       none (pos n) rest ok p = m .none n rest (omega arith) p
       none (negsuc m) rest ok p = n (cons-head (sym (byte-and s at h) ∙ p))
 
-  module _ (v next : ℕ) (has-v : x ≡ Is v next) where
-    found-v : Found (natural (2 ^ 63 - 1) e) (drop at s) s v next
-    found-v = subst (NaturalIs s (drop at s) e (2 ^ 63 - 1)) has-v is-v
+  module _ (v next : ℕ) (has-v : x ≡ Is v next) (l : most < 2 ^ 63) where
+    found-v : Found (natural most e) (drop at s) s v next
+    found-v = subst (NaturalIs s (drop at s) e most) has-v is-v
 
     pub positive-fits : SFits w64 (pos v)
     positive-fits = record { sfits = omega (arith, found-v .fine) }
