@@ -2,7 +2,6 @@
 use Prim.Native.Nat.{_-_}
 use native.Mathlib.Omega.{arith}
 use borrow.Author.Needs.{needs}
-use denote.Ref.{now}
 use lib.ListN.{length}
 use Rattle.record.specs.Write.{Putting, putting-none, putting-more, putting-all, written-length}
 use Rattle.record.proofs.text.put.Statement.{statement}
