@@ -9,7 +9,7 @@ use borrow.Author.Tests.{lt-ltb, le-ltb, ltb-true, ltb-false}
 use lib.Dec.{ltb}
 use lib.IntN.{ℤ, pos, negsuc}
 use lib.ListN.{length}
-use Rattle.record.specs.Meaning.{digitsOf, digits, text}
+use Rattle.exact.specs.Meaning.Record.{digitsOf, digits, text}
 
 -- ---- by one digit and by more, whatever the fuel
 one-of : (f n : ℕ) → n < 10 → digitsOf (suc f) n ≡ (48 + n) ∷ []
@@ -55,7 +55,8 @@ enough-of f n h = by-digits (λ n s. (f : ℕ) → n < f → s ≡ digitsOf f n)
     one n l zero h = absurd (omega arith)
     one n l (suc f) h = sym (one-of f n l)
 
-    more : (n : ℕ) (s : List ℕ) → 10 ≤ n → ((f : ℕ) → n / 10 < f → s ≡ digitsOf f (n / 10)) → (f : ℕ) → n < f → s ++ ((48 + n % 10) ∷ []) ≡ digitsOf f n
+    more : (n : ℕ) (s : List ℕ) → 10 ≤ n → ((f : ℕ) → n / 10 < f → s ≡ digitsOf f (n / 10))
+        → (f : ℕ) → n < f → s ++ ((48 + n % 10) ∷ []) ≡ digitsOf f n
     more n s l r zero h = absurd (omega arith)
     more n s l r (suc f) h = ap (λ x. x ++ ((48 + n % 10) ∷ [])) (r f (omega arith)) ∙ sym (more-of f n l)
 
@@ -180,7 +181,8 @@ goes-on v b n zs p = record {
   where
     least : v * 10 + (b - 48) ≤ n
     least =
-        let whole : n ≡ value (v * 10 + (b - 48)) zs = sym (value-digits n) ∙ ap (value 0) p ∙ value-append 0 (digits v) (b ∷ zs) ∙ ap (λ x. value (x * 10 + (b - 48)) zs) (value-digits v) in
+        let front = value-append 0 (digits v) (b ∷ zs) ∙ ap (λ x. value (x * 10 + (b - 48)) zs) (value-digits v) in
+        let whole : n ≡ value (v * 10 + (b - 48)) zs = sym (value-digits n) ∙ ap (value 0) p ∙ front in
         omega (arith, value-grows (v * 10 + (b - 48)) zs)
 
     zero-first : (m : ℕ) → digits m ≡ 48 ∷ (b ∷ zs) → ⊥

@@ -1,11 +1,11 @@
--- Formats: how values of a kind are written, and which are allowed; what it is to find such a text at a place of the input, or to find none;
--- and that a text determines its value and what follows. Pieces are put together by `before`. Assumes nothing.
+-- Formats: how values of a kind are written, and which are allowed; what it is to find such a text at a place of the input,
+-- or to find none; and that a text determines its value and what follows. Pieces are put together by `before`. Assumes nothing.
 use mathlib.Core.Path.{_≡_, refl, sym, _∙_, ap, ap₂}
 use mathlib.Core.List.{List, [], _∷_, _++_, append-assoc}
 use Prim.Native.Nat.{ℕ, _≤_, _<_}
 use lib.IntN.{ℤ}
 use lib.ListN.{length, drop}
-use Rattle.record.specs.Meaning.{digits, text, InRange}
+use Rattle.exact.specs.Meaning.Record.{digits, text, InRange}
 use Rattle.record.specs.Decimal.{digits-once, text-once}
 
 pub record Format (A : Type 0) : Type 1 where
@@ -30,26 +30,32 @@ module _ {A B : Type 0} (F : Format A) (G : Format B) where
   abbrev pub before : Format (A × B)
   before = record { show = λ p. F .show (p .0) ++ G .show (p .1); allowed = λ p. F .allowed (p .0) × G .allowed (p .1) }
 
+  -- its text is the first's and the second's
+  parts : (a : A) (b : B) (rest : List ℕ) → before .show (a, b) ++ rest ≡ F .show a ++ (G .show b ++ rest)
+  parts a b rest = append-assoc (F .show a) (G .show b) rest
+
   pub found-both : {l s : List ℕ} {a : A} {b : B} {i j : ℕ} → Found F l s a i → Found G (drop i s) s b j → Found before l s (a, b) j
   found-both {l} {s} {a} {b} {i} {j} f g = record {
-    is = f .is ∙ ap (λ x. F .show a ++ x) (g .is) ∙ sym (append-assoc (F .show a) (G .show b) (drop j s));
+    is = f .is ∙ ap (λ x. F .show a ++ x) (g .is) ∙ sym (parts a b (drop j s));
     fine = (f .fine, g .fine);
     within = g .within;
   }
 
   pub missing-first : {l : List ℕ} → Missing F l → Missing before l
-  missing-first m = record { none = λ p rest ok e. m .none (p .0) (G .show (p .1) ++ rest) (ok .0) (e ∙ append-assoc (F .show (p .0)) (G .show (p .1)) rest) }
+  missing-first m = record { none = λ p rest ok e. m .none (p .0) (G .show (p .1) ++ rest) (ok .0) (e ∙ parts (p .0) (p .1) rest) }
 
   pub missing-second : {l s : List ℕ} {a : A} {i : ℕ} → Once F → Found F l s a i → Missing G (drop i s) → Missing before l
   missing-second {l} {s} {a} {i} o f m = record {
     none = λ p rest ok e.
-        m .none (p .1) rest (ok .1) (o .once a (p .0) (drop i s) (G .show (p .1) ++ rest) (sym (f .is) ∙ e ∙ append-assoc (F .show (p .0)) (G .show (p .1)) rest) .1);
+        let first = o .once a (p .0) (drop i s) (G .show (p .1) ++ rest) (sym (f .is) ∙ e ∙ parts (p .0) (p .1) rest) in
+        m .none (p .1) rest (ok .1) (first .1);
   }
 
   pub once-both : Once F → Once G → Once before
   once-both o q = record {
     once = λ p p′ r t e.
-        let first = o .once (p .0) (p′ .0) (G .show (p .1) ++ r) (G .show (p′ .1) ++ t) (sym (append-assoc (F .show (p .0)) (G .show (p .1)) r) ∙ e ∙ append-assoc (F .show (p′ .0)) (G .show (p′ .1)) t) in
+        let same = sym (parts (p .0) (p .1) r) ∙ e ∙ parts (p′ .0) (p′ .1) t in
+        let first = o .once (p .0) (p′ .0) (G .show (p .1) ++ r) (G .show (p′ .1) ++ t) same in
         let second = q .once (p .1) (p′ .1) r t (first .1) in
         (ap₂ (λ a b. (a, b)) (first .0) (second .0), second .1);
   }
@@ -75,10 +81,14 @@ once-named name = record { once = λ a b r t e. (refl, tails e) }
 
 module _ (e : ℕ) (h : e < 48) where
   pub once-natural : (most : ℕ) → Once (natural most e)
-  once-natural most = record { once = λ m n r t p. digits-once e m n r t h (sym (append-assoc (digits m) (e ∷ []) r) ∙ p ∙ append-assoc (digits n) (e ∷ []) t) }
+  once-natural most = record {
+    once = λ m n r t p. digits-once e m n r t h (sym (append-assoc (digits m) (e ∷ []) r) ∙ p ∙ append-assoc (digits n) (e ∷ []) t);
+  }
 
   pub once-whole : Once (whole e)
-  once-whole = record { once = λ x y r t p. text-once e x y r t h (sym (append-assoc (text x) (e ∷ []) r) ∙ p ∙ append-assoc (text y) (e ∷ []) t) }
+  once-whole = record {
+    once = λ x y r t p. text-once e x y r t h (sym (append-assoc (text x) (e ∷ []) r) ∙ p ∙ append-assoc (text y) (e ∷ []) t);
+  }
 
 -- ---- the lines
 abbrev pub Four : Type 0

@@ -6,6 +6,7 @@ pub mod Read
 pub mod ReadLaws
 pub mod LineLaws
 pub mod RecordLaws
+pub mod Returns
 pub mod Write
 pub mod AnswerLaws
 pub mod Longest

@@ -6,7 +6,10 @@ use native.Mathlib.Omega.{arith}
 use lib.IntN.{ℤ, pos, negsuc}
 use lib.ListN.{length, take, length-append, length-take}
 use Rattle.exact.specs.Meaning.Number.{Ω}
-use Rattle.record.specs.Meaning.{Numbers, RightRecord, RingInRange, ReadOutcome, InRange, digits, text, line, four, refused, refusedRecord}
+use Rattle.exact.specs.Meaning.Limits.{Record as Malformed}
+use Rattle.exact.specs.Meaning.Record.{Numbers, RightRecord, RingInRange, InRange, digits, text, line, four}
+use Rattle.record.specs.Meaning.{refusedRecord, ReadOutcome}
+use Rattle.record.specs.Returns.{refuses}
 use Rattle.record.specs.Write.{digits-few}
 
 abbrev pub longestRecord : ℕ
@@ -63,8 +66,8 @@ right-short s x p =
     )
 
 -- what is longer is refused, and so is its start, once it is longer too
-pub long-refused : (s : List ℕ) → longestRecord < length s → ReadOutcome s refusedRecord
-long-refused s h = refused refl (λ x p. omega (arith, right-short s x p))
+pub long-refused : (s : List ℕ) → longestRecord < length s → ReadOutcome s (refusedRecord Malformed 0)
+long-refused s h = refuses (λ x p. omega (arith, right-short s x p)) refl
 
-pub start-refused : (s : List ℕ) (n : ℕ) → longestRecord < n → n ≤ length s → ReadOutcome (take n s) refusedRecord
+pub start-refused : (s : List ℕ) (n : ℕ) → longestRecord < n → n ≤ length s → ReadOutcome (take n s) (refusedRecord Malformed 0)
 start-refused s n h l = long-refused (take n s) (omega (arith, length-take n s))

@@ -1,68 +1,18 @@
--- The bench record and its answer in bytes, as document 01's section "The bench program" has them.
--- Bytes: 10 is LF, 44 a comma, 45 a minus, 48 to 57 the digits, 61 `=`.
+-- What reading a bench record hands back, and what writing its answer leaves, as document 01's section "The bench program" has them.
+-- The record and its answer in bytes are crate exact's (Meaning.Record).
 use mathlib.Core.Path.{_≡_}
-use mathlib.Core.Bool.{true, false}
-use mathlib.Core.List.{List, [], _∷_, _++_}
-use Prim.Native.Nat.{ℕ, zero, suc, _+_, _/_, _%_, _^_, _≤_, _<_}
-use lib.Dec.{ltb}
-use lib.IntN.{ℤ, pos, negsuc}
-use lib.ListN.{length, drop}
-use Rattle.exact.specs.Meaning.Number.{Ω}
-use Rattle.exact.specs.Meaning.Limits.{Accepted, Record as Malformed}
+use mathlib.Core.List.{List}
+use Prim.Native.Nat.{ℕ}
+use lib.IntN.{pos}
+use lib.ListN.{length}
+use Rattle.exact.specs.Meaning.Limits.{Accepted}
+use Rattle.exact.specs.Meaning.Lent.{over}
+use Rattle.exact.specs.Meaning.Outcome.{none, _then_, Outcome}
+use Rattle.exact.specs.Meaning.Record.{Numbers, RightRecord, answerText}
+use Rattle.exact.specs.Meaning.Refusals.{malformed}
 use Rattle.record.specs.declared.Record.{Record}
 
--- ---- a decimal number: no leading zeros, an optional minus, no -0
--- one digit, or the digits of n / 10 and the last; f bounds their number, and n + 1 is always enough
-unfoldable pub digitsOf : ℕ → ℕ → List ℕ
-digitsOf zero n = []
-digitsOf (suc f) n = elim (ltb n 10) [ true ↦ (48 + n) ∷ [] | false ↦ digitsOf f (n / 10) ++ ((48 + n % 10) ∷ []) ]
-
-unfoldable pub digits : ℕ → List ℕ
-digits n = digitsOf (suc n) n
-
-abbrev pub text : ℤ → List ℕ
-text (pos n) = digits n
-text (negsuc n) = 45 ∷ digits (suc n)
-
--- within 64-bit signed range
-abbrev pub InRange : ℤ → Type 0
-InRange (pos n) = n < 2 ^ 63
-InRange (negsuc n) = suc n ≤ 2 ^ 63
-
--- ---- lines: a name, `=`, a value, LF
-abbrev pub line : List ℕ → List ℕ → List ℕ
-line name value = name ++ (61 ∷ (value ++ (10 ∷ [])))
-
--- four numbers parted by commas
-abbrev pub four : Ω → List ℕ
-four x = text (x .a) ++ (44 ∷ (text (x .b) ++ (44 ∷ (text (x .c) ++ (44 ∷ text (x .d))))))
-
--- ---- the record: k, n, z and w, in that order
-pub record Numbers : Type 0 where
-  pub k : ℤ
-  pub n : ℕ
-  pub z : Ω
-  pub w : Ω
-
--- the names are k, n, z and w
-abbrev pub recordText : Numbers → List ℕ
-recordText x = line (107 ∷ []) (text (x .k)) ++ (line (110 ∷ []) (digits (x .n)) ++ (line (122 ∷ []) (four (x .z)) ++ line (119 ∷ []) (four (x .w))))
-
-pub record RingInRange (x : Ω) : Type 0 where
-  pub a-in : InRange (x .a)
-  pub b-in : InRange (x .b)
-  pub c-in : InRange (x .c)
-  pub d-in : InRange (x .d)
-
--- the bytes of a right record, and its numbers
-pub record RightRecord (s : List ℕ) (x : Numbers) : Type 0 where
-  pub is : s ≡ recordText x
-  pub k-in : InRange (x .k)
-  pub n-in : x .n ≤ 255
-  pub z-in : RingInRange (x .z)
-  pub w-in : RingInRange (x .w)
-
--- ---- what reading answers
+-- ---- reading
 abbrev pub numbers : Record → Numbers
 numbers r = record {
   k = r .k;
@@ -71,9 +21,10 @@ numbers r = record {
   w = record { a = r .wa; b = r .wb; c = r .wc; d = r .wd };
 }
 
-abbrev pub refusedRecord : Record
-refusedRecord = record {
-  refusal = Malformed;
+-- what a refusal hands back: its number, and zeros; a record has no place
+abbrev pub refusedRecord : ℕ → ℕ → Record
+refusedRecord number place = record {
+  refusal = number;
   k = pos 0;
   n = 0;
   za = pos 0;
@@ -86,25 +37,15 @@ refusedRecord = record {
   wd = pos 0;
 }
 
--- accepted with the numbers of which the bytes are the text, or refused 8 where there are none
-pub data ReadOutcome (s : List ℕ) (r : Record) : Type 0 where
-  accepted : r .refusal ≡ Accepted → RightRecord s (numbers r) → ReadOutcome s r
-  refused : r ≡ refusedRecord → ((x : Numbers) → RightRecord s x → ⊥) → ReadOutcome s r
+-- the numbers of which the bytes are the text
+pub record Reads (s : List ℕ) (r : Record) : Type 0 where
+  pub taken : r .refusal ≡ Accepted
+  pub right : RightRecord s (numbers r)
 
--- ---- the answer: refusal number, word, its T letters, its length; the names are refusal, word, t and bytes
-abbrev pub answerLines : ℕ → List ℕ → ℕ → List ℕ
-answerLines refusal word t =
-    line (114 ∷ 101 ∷ 102 ∷ 117 ∷ 115 ∷ 97 ∷ 108 ∷ []) (digits refusal)
-    ++ (line (119 ∷ 111 ∷ 114 ∷ 100 ∷ []) word
-    ++ (line (116 ∷ []) (digits t)
-    ++ line (98 ∷ 121 ∷ 116 ∷ 101 ∷ 115 ∷ []) (digits (length word))))
+abbrev pub ReadOutcome : List ℕ → Record → Type 0
+ReadOutcome s r = Outcome refusedRecord (Reads s) (malformed s then none) r
 
--- when refused the word is empty, and both counts are 0
-abbrev pub answerText : ℕ → List ℕ → ℕ → List ℕ
-answerText zero word t = answerLines zero word t
-answerText (suc r) word t = answerLines (suc r) [] 0
-
--- the answer's text, its size, and the bytes beyond as before
+-- ---- writing: the answer's text, its size, and the bytes beyond as before
 pub record WriteOutcome (refusal : ℕ) (word : List ℕ) (t : ℕ) (old new : List ℕ) (size : ℕ) : Type 0 where
   pub is-size : size ≡ length (answerText refusal word t)
-  pub is : new ≡ answerText refusal word t ++ drop size old
+  pub is : new ≡ over (answerText refusal word t) old

@@ -1,4 +1,5 @@
--- What the inner readers answer, case by case: a format's text found, with its value and the place behind it, or none there. Assumes nothing.
+-- What the inner readers answer, case by case: a format's text found, with its value and the place behind it, or none there.
+-- Assumes nothing.
 use mathlib.Core.Path.{_≡_}
 use mathlib.Core.List.{List}
 use Prim.Native.Nat.{ℕ, _+_, _-_, _*_, _≤_, _<_}

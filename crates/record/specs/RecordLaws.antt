@@ -1,13 +1,19 @@
--- The whole record: its text is that of its lines, which determines the numbers; and why the reader answers right. Assumes nothing.
+-- The whole record: its text is that of its lines, which determines the numbers; two outcomes of one input are one. Assumes nothing.
 use mathlib.Core.Path.{_≡_, sym, _∙_, ap, ap₂}
 use mathlib.Core.List.{List, [], _∷_, _++_, append-assoc, append-nil}
-use Prim.Native.Nat.{ℕ, _+_, _-_, _≤_, _<_}
+use Prim.Native.Nat.{ℕ, _-_, _≤_, _<_}
 use native.Mathlib.Omega.{arith}
 use lib.IntN.{ℤ}
 use lib.ListN.{length, drop, length-drop, drop-of-length-le}
 use Rattle.exact.specs.Meaning.Number.{Ω}
-use Rattle.record.specs.Meaning.{Numbers, RightRecord, ReadOutcome, accepted, refused, digits, text, line, four, recordText, numbers}
-use Rattle.record.specs.Format.{Format, Found, Missing, Once, Four, before, kLine, nLine, ringLine, once-named, once-natural, once-whole, once-both, named, natural, whole, fourNumbers}
+use Rattle.exact.specs.Meaning.Outcome.{none, _then_}
+use Rattle.exact.specs.Meaning.Record.{Numbers, RingInRange, RightRecord, digits, text, line, four, recordText}
+use Rattle.exact.specs.Meaning.Refusals.{malformed}
+use Rattle.exact.specs.Outcomes.Ladder.{Only, one-outcome}
+use Rattle.exact.specs.Outcomes.Places.{one-plain}
+use Rattle.record.specs.Meaning.{numbers, refusedRecord, Reads, ReadOutcome}
+use Rattle.record.specs.Format.{Format, Found, Missing, Once, once-named, once-natural, once-whole, once-both}
+use Rattle.record.specs.Format.{Four, before, named, natural, whole, fourNumbers, kLine, nLine, ringLine}
 use Rattle.record.specs.declared.Record.{Record}
 
 -- ---- the lines together
@@ -30,7 +36,8 @@ abbrev pub lines : Numbers → Lines
 lines x = ((tt, x .k), ((tt, x .n), ((tt, ring (x .z)), (tt, ring (x .w)))))
 
 -- four texts parted by commas, and LF, however they are joined
-joined : (a b c d : List ℕ) → (a ++ (44 ∷ (b ++ (44 ∷ (c ++ (44 ∷ d)))))) ++ (10 ∷ []) ≡ (a ++ (44 ∷ [])) ++ ((b ++ (44 ∷ [])) ++ ((c ++ (44 ∷ [])) ++ (d ++ (10 ∷ []))))
+joined : (a b c d : List ℕ) → (a ++ (44 ∷ (b ++ (44 ∷ (c ++ (44 ∷ d)))))) ++ (10 ∷ [])
+    ≡ (a ++ (44 ∷ [])) ++ ((b ++ (44 ∷ [])) ++ ((c ++ (44 ∷ [])) ++ (d ++ (10 ∷ []))))
 joined a b c d = simp append-assoc
 
 ring-shown : (name : ℕ) (x : Ω) → line (name ∷ []) (four x) ≡ ringLine name .show (tt, ring x)
@@ -38,7 +45,8 @@ ring-shown name x = ap (λ l. name ∷ (61 ∷ l)) (joined (text (x .a)) (text (
 
 shown : (x : Numbers) → recordText x ≡ allLines .show (lines x)
 shown x =
-    ap₂ (λ z w. line (107 ∷ []) (text (x .k)) ++ (line (110 ∷ []) (digits (x .n)) ++ (z ++ w))) (ring-shown 122 (x .z)) (ring-shown 119 (x .w))
+    ap₂ (λ z w. line (107 ∷ []) (text (x .k)) ++ (line (110 ∷ []) (digits (x .n)) ++ (z ++ w)))
+    (ring-shown 122 (x .z)) (ring-shown 119 (x .w))
 
 -- ---- it determines the numbers
 pub once-k : Once kLine
@@ -60,7 +68,10 @@ pub once-ring : (name : ℕ) → Once (ringLine name)
 once-ring name = once-both (named name) fourNumbers (once-named name) once-four
 
 once-all : Once allLines
-once-all = once-both kLine nzwLines once-k (once-both nLine zwLines once-n (once-both (ringLine 122) (ringLine 119) (once-ring 122) (once-ring 119)))
+once-all =
+    once-both kLine nzwLines once-k
+    (once-both nLine zwLines once-n
+    (once-both (ringLine 122) (ringLine 119) (once-ring 122) (once-ring 119)))
 
 -- the record of a refusal number and the lines' numbers
 abbrev build : ℕ → Lines → Record
@@ -86,23 +97,27 @@ pub record-once : (s : List ℕ) (x y : Numbers) → RightRecord s x → RightRe
 record-once s x y p q = ap (λ v. numbers (build 0 v)) (same-lines s x y p q)
 
 -- two outcomes of one input are one
-pub read-once : (s : List ℕ) (r t : Record) → ReadOutcome s r → ReadOutcome s t → r ≡ t
-read-once s r t (accepted a p) (accepted b q) = ap₂ build (a ∙ sym b) (same-lines s (numbers r) (numbers t) p q)
-read-once s r t (accepted a p) (refused b n) = absurd (n (numbers r) p)
-read-once s r t (refused a n) (accepted b q) = absurd (n (numbers t) q)
-read-once s r t (refused a n) (refused b m) = a ∙ sym b
+one-read : (s : List ℕ) → Only (Reads s)
+one-read s r t p q = ap₂ build (p .taken ∙ sym (q .taken)) (same-lines s (numbers r) (numbers t) (p .right) (q .right))
 
--- ---- the reader's ways out
+pub read-once : (s : List ℕ) (r t : Record) → ReadOutcome s r → ReadOutcome s t → r ≡ t
+read-once s = one-outcome refusedRecord (Reads s) (malformed s then none) (one-plain, tt) (λ h. one-read s)
+
+-- ---- the lines that are found or missing, and the record
 module _ (s : List ℕ) where
   pub no-record : Missing allLines s → (x : Numbers) → RightRecord s x → ⊥
   no-record m x p =
       m .none (lines x) []
-      ((tt, p .k-in), ((tt, p .n-in), ((tt, (p .z-in .a-in, (p .z-in .b-in, (p .z-in .c-in, p .z-in .d-in)))), (tt, (p .w-in .a-in, (p .w-in .b-in, (p .w-in .c-in, p .w-in .d-in)))))))
+      ((tt, p .k-in), ((tt, p .n-in), ((tt, inside (p .z-in)), (tt, inside (p .w-in)))))
       (p .is ∙ shown x ∙ sym (append-nil (allLines .show (lines x))))
+    where
+      inside : {y : Ω} → RingInRange y → fourNumbers .allowed (ring y)
+      inside h = (h .a-in, (h .b-in, (h .c-in, h .d-in)))
 
   pub more-behind : (v : Lines) (end : ℕ) → Found allLines s s v end → end < length s → (x : Numbers) → RightRecord s x → ⊥
   more-behind v end f h x p =
-      let e = once-all .once v (lines x) (drop end s) [] (sym (f .is) ∙ p .is ∙ shown x ∙ sym (append-nil (allLines .show (lines x)))) in
+      let same = sym (f .is) ∙ p .is ∙ shown x ∙ sym (append-nil (allLines .show (lines x))) in
+      let e = once-all .once v (lines x) (drop end s) [] same in
       let l : length s - end ≡ 0 = sym (length-drop end s) ∙ ap length (e .1) in
       omega arith
 
@@ -111,6 +126,9 @@ module _ (s : List ℕ) where
     is = f .is ∙ ap (λ l. allLines .show (lines x) ++ l) (drop-of-length-le s h) ∙ append-nil (allLines .show (lines x)) ∙ sym (shown x);
     k-in = f .fine .0 .1;
     n-in = f .fine .1 .0 .1;
-    z-in = record { a-in = f .fine .1 .1 .0 .1 .0; b-in = f .fine .1 .1 .0 .1 .1 .0; c-in = f .fine .1 .1 .0 .1 .1 .1 .0; d-in = f .fine .1 .1 .0 .1 .1 .1 .1 };
-    w-in = record { a-in = f .fine .1 .1 .1 .1 .0; b-in = f .fine .1 .1 .1 .1 .1 .0; c-in = f .fine .1 .1 .1 .1 .1 .1 .0; d-in = f .fine .1 .1 .1 .1 .1 .1 .1 };
+    z-in = inside (f .fine .1 .1 .0 .1);
+    w-in = inside (f .fine .1 .1 .1 .1);
   }
+    where
+      inside : {y : Ω} → fourNumbers .allowed (ring y) → RingInRange y
+      inside h = record { a-in = h .0; b-in = h .1 .0; c-in = h .1 .1 .0; d-in = h .1 .1 .1 }

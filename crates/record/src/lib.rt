@@ -9,8 +9,9 @@ use lines::Four;
 ghost use mathlib.Core.Path.{_≡_};
 ghost use Prim.Native.Nat.{_≤_};
 ghost use lib.ListN.{length};
-ghost use Rattle.exact.specs.Meaning.Limits.{enough};
-ghost use Rattle.record.specs.Meaning.{refusedRecord, ReadOutcome, answerLines, WriteOutcome};
+ghost use Rattle.exact.specs.Meaning.Limits.{enough, Record as Malformed};
+ghost use Rattle.exact.specs.Meaning.Record.{answerLines};
+ghost use Rattle.record.specs.Meaning.{refusedRecord, ReadOutcome, WriteOutcome};
 ghost use Rattle.record.specs.Write.{Written};
 
 // The bytes of the longest right record: whoever has read more can stop, and the answer is 8.
@@ -32,7 +33,7 @@ pub struct Record {
 }
 
 fn refused() -> Record
-    ensures { λ r. ⌜ r ≡ refusedRecord ⌝ }
+    ensures { λ r. ⌜ r ≡ refusedRecord Malformed 0 ⌝ }
 {
     Record {
         refusal: exact::RECORD,

@@ -3,7 +3,7 @@ ghost use mathlib.Core.Path.{_≡_};
 ghost use mathlib.Core.List.{[], _∷_, _++_};
 ghost use Prim.Native.Nat.{_+_, _≤_, _<_};
 ghost use lib.ListN.{length};
-ghost use Rattle.record.specs.Meaning.{digits};
+ghost use Rattle.exact.specs.Meaning.Record.{digits};
 ghost use Rattle.record.specs.Write.{Written};
 
 pub fn put(out: &mut [u8], at: usize, src: &[u8]) -> usize

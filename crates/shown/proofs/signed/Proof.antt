@@ -1,9 +1,13 @@
 -- `shown::signed` meets its contract: nothing that it adds or casts is lost.
 use native.Mathlib.Omega.{arith}
-use Rattle.shown.specs.Below.{below, cast-of, not-below}
+use Rattle.shown.specs.Below.{Below, below, cast-of, not-below}
 use borrow.Author.Needs.{needs}
 use Rattle.shown.proofs.signed.Statement.{statement}
 use Rattle.shown.proofs.signed.Tie as tie
+
+-- the size of a number below 0
+size : (c : tie.After-text) → Below (c .before .before .before .args .x)
+size c = below _ (c .before .before .before .fits .x) (c .before .before .if1 .taken)
 
 slice-aggregate-text : tie.Need-slice-aggregate-text
 slice-aggregate-text c = search needs
@@ -12,22 +16,22 @@ text-requires : tie.Need-text-requires
 text-requires c κs = search needs
 
 add-above : tie.Need-add-above
-add-above c = (below (c .before .before .before .args .x) (c .before .before .before .fits .x) (c .before .before .if1 .taken)) .above-fits
+add-above c = size c .above-fits
 
 sub-less : tie.Need-sub-less
-sub-less c = (below (c .before .before .before .args .x) (c .before .before .before .fits .x) (c .before .before .if1 .taken)) .less-fits
+sub-less c = size c .less-fits
 
 cast-number : tie.Need-cast-number
-cast-number c = let b = below (c .before .before .before .args .x) (c .before .before .before .fits .x) (c .before .before .if1 .taken) in cast-of (b .is) (b .small)
+cast-number c = cast-of (size c .is) (size c .small)
 
 add-number : tie.Need-add-number
-add-number c = let b = below (c .before .before .before .args .x) (c .before .before .before .fits .x) (c .before .before .if1 .taken) in rw (b .is) (record { fits = omega (arith, b .small) })
+add-number c = rw (size c .is) (record { fits = omega (arith, size c .small) })
 
 number-requires : tie.Need-number-requires
 number-requires c κs = search needs
 
 cast-number-2 : tie.Need-cast-number-2
-cast-number-2 c = not-below (c .before .args .x) (c .before .fits .x) (c .if1 .left)
+cast-number-2 c = not-below _ (c .before .fits .x) (c .if1 .left)
 
 number-requires-2 : tie.Need-number-requires-2
 number-requires-2 c κs = search needs

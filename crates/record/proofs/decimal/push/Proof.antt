@@ -1,8 +1,5 @@
 -- `decimal::push` meets its contract: what stops it is what no number's digits can go on with. Assumes nothing.
-use mathlib.Core.Path.{subst}
-use native.Mathlib.Omega.{arith}
 use borrow.Author.Needs.{needs}
-use Rattle.record.specs.Read.{DigitIs}
 use Rattle.record.specs.ReadLaws.{push-stop, push-over, push-more}
 use Rattle.record.proofs.decimal.push.Statement.{statement}
 use Rattle.record.proofs.decimal.push.Tie as tie
@@ -20,9 +17,7 @@ enum-told : tie.Need-enum-told
 enum-told c = search needs
 
 returns-2 : tie.Need-returns-2
-returns-2 c =
-    let a = c .before .before .before .before .args in
-    push-stop (a .front) (a .b) (a .most) (subst (DigitIs (a .b) 9) (c .enum-told .given .1) (c .before .before .digit .ensures))
+returns-2 c = search (needs, push-stop)
 
 returns-3 : tie.Need-returns-3
 returns-3 c = search needs
@@ -34,19 +29,13 @@ sub-if3 : tie.Need-sub-if3
 sub-if3 c = search needs
 
 returns-4 : tie.Need-returns-4
-returns-4 c =
-    let a = c .before .before .before .before .before .before .before .args in
-    let d = c .before .before .before .d .given in
-    push-over (a .front) (a .b) (a .most) (d .0 .0) (subst (DigitIs (a .b) 9) (d .1) (c .before .before .before .before .before .digit .ensures)) (c .if3 .taken)
+returns-4 c = search (needs, push-over)
 
 add-t8 : tie.Need-add-t8
 add-t8 c = search needs
 
 returns-5 : tie.Need-returns-5
-returns-5 c =
-    let a = c .before .before .before .before .before .before .before .args in
-    let d = c .before .before .before .d .given in
-    (push-more (a .front) (a .b) (a .most) (d .0 .0) (subst (DigitIs (a .b) 9) (d .1) (c .before .before .before .before .before .digit .ensures)) (omega arith) (c .if3 .left), omega arith)
+returns-5 c = search (needs, push-more)
 
 pub push-spec : {M : Type 1} → statement M
 push-spec =

@@ -1,14 +1,11 @@
 -- `decimal::whole_at` meets its contract: by whether there is a minus. Assumes nothing.
-use mathlib.Core.Path.{subst}
-use denote.Ref.{now}
-use Rattle.record.specs.Read.{WholeIs}
 use Rattle.record.specs.ReadLaws.{whole-past, minus-there}
 use borrow.Author.Needs.{needs}
 use Rattle.record.proofs.decimal.whole_at.Statement.{statement}
 use Rattle.record.proofs.decimal.whole_at.Tie as tie
 
 returns : tie.Need-returns
-returns c = whole-past (now (c .before .before .args .s)) (c .before .before .args .at) (c .before .before .args .end) (c .if1 .taken)
+returns c = search (needs, whole-past)
 
 shared-slice-read-if2 : tie.Need-shared-slice-read-if2
 shared-slice-read-if2 c = search needs
@@ -20,9 +17,7 @@ negative-at-requires : tie.Need-negative-at-requires
 negative-at-requires c κs = search needs
 
 returns-2 : tie.Need-returns-2
-returns-2 c =
-    let a = c .before .before .before .before .before .args in
-    subst (λ l. WholeIs (now (a .s)) l (a .end) (c .negative-at .result)) (minus-there (now (a .s)) (a .at) (c .before .before .before .if1 .left) (c .before .if2 .taken)) (c .negative-at .ensures)
+returns-2 c = search (needs, minus-there)
 
 positive-at-requires : tie.Need-positive-at-requires
 positive-at-requires c κs = search needs

@@ -1,10 +1,5 @@
 -- `lines::n_at` meets its contract: the name, then the number. Assumes nothing.
-use mathlib.Core.Path.{subst}
-use denote.Ref.{now}
-use lib.ListN.{drop}
-use Rattle.record.specs.Format.{named, natural, missing-first}
-use Rattle.record.specs.Read.{NameIs}
-use Rattle.record.specs.LineLaws.{n-is}
+use Rattle.record.specs.LineLaws.{no-n-name, n-is}
 use borrow.Author.Needs.{needs}
 use Rattle.record.proofs.lines.n_at.Statement.{statement}
 use Rattle.record.proofs.lines.n_at.Tie as tie
@@ -19,20 +14,13 @@ enum-told : tie.Need-enum-told
 enum-told c = search needs
 
 returns : tie.Need-returns
-returns c =
-    let a = c .before .before .before .before .args in
-    let l = drop (a .at) (now (a .s)) in
-    missing-first (named 110) (natural 255 10) (subst (NameIs (now (a .s)) l 110) (c .enum-told .given .1) (c .before .before .name-at .ensures))
+returns c = search (needs, no-n-name)
 
 natural-at-requires : tie.Need-natural-at-requires
 natural-at-requires c κs = search needs
 
 returns-2 : tie.Need-returns-2
-returns-2 c =
-    let a = c .before .before .before .before .before .before .args in
-    let l = drop (a .at) (now (a .s)) in
-    let i = c .before .before .value .given in
-    n-is l (now (a .s)) (i .0 .0) (c .natural-at .result) (subst (NameIs (now (a .s)) l 110) (i .1) (c .before .before .before .before .name-at .ensures)) (c .natural-at .ensures)
+returns-2 c = search (needs, n-is)
 
 pub n-at-spec : {M : Type 1} → statement M
 n-at-spec =

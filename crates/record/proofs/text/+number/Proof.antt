@@ -1,8 +1,9 @@
--- The proof of the cycle of calls {text::number}. The measure is the number. The tenth's digits and the last are the number's. Assumes nothing.
+-- The proof of the cycle of calls {text::number}. The measure is the number. The tenth's digits and the last are the number's.
+-- Assumes nothing.
 use native.Mathlib.Omega.{arith}
-use denote.Ref.{now}
+use borrow.Author.Needs.{needs}
 use lib.ListN.{length-set}
-use Rattle.record.specs.Write.{number-one, number-more, length-one, length-more, number-room, written-length}
+use Rattle.record.specs.Write.{number-one, number-more, length-one, length-more, number-room, number-end, written-length}
 use Prim.Native.Nat.{ℕ, _<_}
 use borrow.Fn.Kinds.{In}
 use borrow.Fn.PlainCycle.{Measures, is, falls, and}
@@ -36,7 +37,7 @@ number-slice-write-out : (t : ℕ) → number-lts.Need-slice-write-out (
   number-below t,
   number.Post,
 ) (number-at t) number.Post
-number-slice-write-out t c = omega (arith, length-one (c .before .before .before .args .v) (c .before .if1 .taken), c .before .before .before .pre .1)
+number-slice-write-out t c = omega (arith, length-one _ (c .before .if1 .taken))
 
 number-add-result : (t : ℕ) → number-lts.Need-add-result (
   digit-of-reads.Asked,
@@ -44,7 +45,7 @@ number-add-result : (t : ℕ) → number-lts.Need-add-result (
   number-below t,
   number.Post,
 ) (number-at t) number.Post
-number-add-result t c = omega (arith, length-one (c .before .before .before .args .v) (c .before .if1 .taken), c .before .before .before .pre .1)
+number-add-result t c = omega (arith, length-one _ (c .before .if1 .taken))
 
 number-same-length : (t : ℕ) → number-lts.Need-same-length (
   digit-of-reads.Asked,
@@ -60,7 +61,7 @@ number-returns : (t : ℕ) → number-lts.Need-returns (
   number-below t,
   number.Post,
 ) (number-at t) number.Post
-number-returns t c = rw (c .digit-of .ensures) (number-one (now (c .before .before .before .args .out)) (c .before .before .before .args .at) (c .before .before .before .args .v) (c .before .if1 .taken))
+number-returns t c = search (needs, number-one)
 
 number-number-requires : (t : ℕ) → number-lts.Need-number-requires (
   digit-of-reads.Asked,
@@ -68,7 +69,8 @@ number-number-requires : (t : ℕ) → number-lts.Need-number-requires (
   number-below t,
   number.Post,
 ) (number-at t) number.Post
-number-number-requires t c κs = (rw (← (c .before .before .before .pre .0)) (omega arith), omega (arith, length-more (c .before .before .before .args .v) (c .before .if1 .left), c .before .before .before .pre .1))
+number-number-requires t c κs =
+    (rw (← (c .before .before .before .pre .0)) (omega arith), omega (arith, length-more _ (c .before .if1 .left)))
 
 number-digit-of-requires-2 : (t : ℕ) → number-lts.Need-digit-of-requires-2 (
   digit-of-reads.Asked,
@@ -84,7 +86,7 @@ number-slice-write-out-2 : (t : ℕ) → number-lts.Need-slice-write-out-2 (
   number-below t,
   number.Post,
 ) (number-at t) number.Post
-number-slice-write-out-2 t c = number-room (now (c .before .before .before .before .before .before .before .args .out)) (c .before .before .before .number .last .0) (c .before .before .before .before .before .before .before .args .at) (c .before .before .before .before .before .before .before .args .v) (c .before .before .before .number .result) (c .before .before .before .before .before .if1 .left) (c .before .before .before .before .before .before .before .pre .1) (c .before .before .before .number .ensures) .0
+number-slice-write-out-2 t c = search (needs, number-room)
 
 number-add-result-2 : (t : ℕ) → number-lts.Need-add-result-2 (
   digit-of-reads.Asked,
@@ -92,7 +94,7 @@ number-add-result-2 : (t : ℕ) → number-lts.Need-add-result-2 (
   number-below t,
   number.Post,
 ) (number-at t) number.Post
-number-add-result-2 t c = omega (arith, number-room (now (c .before .before .before .before .before .before .before .args .out)) (c .before .before .before .number .last .0) (c .before .before .before .before .before .before .before .args .at) (c .before .before .before .before .before .before .before .args .v) (c .before .before .before .number .result) (c .before .before .before .before .before .if1 .left) (c .before .before .before .before .before .before .before .pre .1) (c .before .before .before .number .ensures), c .before .before .before .before .before .before .before .good)
+number-add-result-2 t c = search (needs, number-end)
 
 number-same-length-2 : (t : ℕ) → number-lts.Need-same-length-2 (
   digit-of-reads.Asked,
@@ -100,7 +102,7 @@ number-same-length-2 : (t : ℕ) → number-lts.Need-same-length-2 (
   number-below t,
   number.Post,
 ) (number-at t) number.Post
-number-same-length-2 t c = simp length-set (written-length (now (c .before .before .before .before .before .before .before .args .out)) (c .before .before .before .before .before .before .before .args .at) _ _ _ (c .before .before .before .number .ensures))
+number-same-length-2 t c = simp length-set (written-length (c .before .before .before .number .ensures))
 
 number-returns-2 : (t : ℕ) → number-lts.Need-returns-2 (
   digit-of-reads.Asked,
@@ -108,7 +110,7 @@ number-returns-2 : (t : ℕ) → number-lts.Need-returns-2 (
   number-below t,
   number.Post,
 ) (number-at t) number.Post
-number-returns-2 t c = rw (c .digit-of2 .ensures) (number-more (now (c .before .before .before .before .before .before .before .args .out)) (c .before .before .before .number .last .0) (c .before .before .before .before .before .before .before .args .at) (c .before .before .before .before .before .before .before .args .v) (c .before .before .before .number .result) (c .before .before .before .before .before .if1 .left) (c .before .before .before .number .ensures))
+number-returns-2 t c = search (needs, number-more)
 
 pub +number-spec : {M : Type 1} → statement M
 +number-spec = close μ-number λ t. number-lts.spec (

@@ -1,39 +1,26 @@
 -- `text::bytes_line` meets its contract: name, value and LF have room, and together they are the line. Assumes nothing.
-use denote.Ref.{now}
-use Rattle.record.specs.Write.{Line, name-room, value-room, end-room, line-written}
+use Rattle.record.specs.Write.{name-room, value-room, end-room, line-written}
 use borrow.Author.Needs.{needs}
 use Rattle.record.proofs.text.bytes_line.Statement.{statement}
 use Rattle.record.proofs.text.bytes_line.Tie as tie
 
-abbrev line : tie.Start → Line
-line c = record { old = now (c .args .out); at = c .args .at; name = now (c .args .name); value = now (c .args .value); room = c .pre }
-
 put-requires : tie.Need-put-requires
-put-requires c κs = name-room (line (c .before .before .before .before))
+put-requires c κs = search (needs, name-room)
 
 put-requires-2 : tie.Need-put-requires-2
-put-requires-2 c κs =
-    let p = c .before .before .before .put in
-    value-room (line (c .before .before .before .before .before .before .before .before)) (p .last .0) (p .result) (p .ensures)
+put-requires-2 c κs = search (needs, value-room)
 
 slice-aggregate-put : tie.Need-slice-aggregate-put
 slice-aggregate-put c = search needs
 
 put-requires-3 : tie.Need-put-requires-3
-put-requires-3 c κs =
-    let p = c .before .before .before .before .before .before .before .before .put in
-    let q = c .before .before .before .before .put2 in
-    end-room (line (c .before .before .before .before .before .before .before .before .before .before .before .before .before)) (p .last .0) (p .result) (p .ensures) (q .last .0) (q .result) (q .ensures)
+put-requires-3 c κs = search (needs, end-room)
 
 same-length : tie.Need-same-length
 same-length c = search needs
 
 returns : tie.Need-returns
-returns c =
-    let p = c .before .before .before .before .before .before .before .before .before .before .before .put in
-    let q = c .before .before .before .before .before .before .before .put2 in
-    let r = c .before .before .put3 in
-    line-written (line (c .before .before .before .before .before .before .before .before .before .before .before .before .before .before .before .before)) (p .last .0) (p .result) (p .ensures) (q .last .0) (q .result) (q .ensures) (r .last .0) (r .result) (r .ensures)
+returns c = search (needs, line-written)
 
 pub bytes-line-spec : {M : Type 1} → statement M
 bytes-line-spec =

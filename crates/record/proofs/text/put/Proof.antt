@@ -1,7 +1,7 @@
 -- `text::put` meets its contract. The loop's invariant: the first `i` bytes are in place. Assumes nothing.
 use Prim.Native.Nat.{_-_}
 use native.Mathlib.Omega.{arith}
-use denote.Ref.{now}
+use borrow.Author.Needs.{needs}
 use lib.ListN.{length}
 use Rattle.record.specs.Write.{Putting, putting-none, putting-more, putting-all, written-length}
 use Rattle.record.proofs.text.put.Statement.{statement}
@@ -14,7 +14,7 @@ abbrev μ-loop : tie.MeasureT-loop
 μ-loop out₀ at src i₀ out i = length src - i
 
 loop-holds : tie.Need-loop-holds Inv-loop μ-loop
-loop-holds c = putting-none (now (c .args .out)) (c .args .at) (now (c .args .src))
+loop-holds c = search (needs, putting-none)
 
 shared-slice-read-out : tie.Need-shared-slice-read-out Inv-loop μ-loop
 shared-slice-read-out c = omega arith
@@ -23,7 +23,7 @@ add-out : tie.Need-add-out Inv-loop μ-loop
 add-out c = omega arith
 
 slice-write-out : tie.Need-slice-write-out Inv-loop μ-loop
-slice-write-out c = omega (arith, written-length (now (c .before .before .before .args .out)) (c .before .before .before .args .at) _ _ _ (c .before .before .loop .inv .done))
+slice-write-out c = omega (arith, written-length (c .before .before .loop .inv .done))
 
 add-i : tie.Need-add-i Inv-loop μ-loop
 add-i c = omega arith
@@ -32,16 +32,16 @@ loop-less : tie.Need-loop-less Inv-loop μ-loop
 loop-less c = omega arith
 
 loop-again : tie.Need-loop-again Inv-loop μ-loop
-loop-again c = putting-more (now (c .before .before .before .args .out)) (c .before .before .before .args .at) (now (c .before .before .before .args .src)) (c .before .before .loop .out) (c .before .before .loop .i) (c .before .before .loop .inv) (c .before .loop-test .taken)
+loop-again c = search (needs, putting-more)
 
 add-result : tie.Need-add-result Inv-loop μ-loop
 add-result c = omega arith
 
 same-length : tie.Need-same-length Inv-loop μ-loop
-same-length c = written-length (now (c .before .before .args .out)) (c .before .before .args .at) _ _ _ (c .before .loop .inv .done)
+same-length c = written-length (c .before .loop .inv .done)
 
 returns : tie.Need-returns Inv-loop μ-loop
-returns c = putting-all (now (c .before .before .args .out)) (c .before .before .args .at) (now (c .before .before .args .src)) (c .before .loop .out) (c .before .loop .i) (c .before .loop .inv) (c .loop-test .left)
+returns c = search (needs, putting-all)
 
 pub put-spec : {M : Type 1} → statement M
 put-spec =
