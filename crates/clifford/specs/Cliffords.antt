@@ -3,6 +3,10 @@ use mathlib.Core.Path.{_≡_, refl, sym, _∙_, ap}
 use mathlib.Core.List.{List, [], _∷_, _++_, append-assoc, append-nil}
 use Prim.Native.Nat.{ℕ, zero, suc, _+_, _-_, _*_, _%_, _<_, _≤_}
 use native.Mathlib.Omega.{arith}
+use lib.IntN.{ℤ}
+use mir.Syntax.{w32}
+use mir.Val.{SFits}
+use Rattle.exact.specs.Whole.Machine.{held}
 use Rattle.exact.specs.Meaning.Word.{Letter, H, S, X, W, T′}
 use Rattle.exact.specs.Meaning.Normal.{times}
 use Rattle.exact.specs.Meaning.Clifford.{cycle}
@@ -12,9 +16,12 @@ use Rattle.clifford.specs.declared.Clifford.{Clifford}
 use Rattle.clifford.specs.declared.Conj2.{Conj2}
 use Rattle.clifford.specs.declared.Coset.{Coset}
 use Rattle.clifford.specs.declared.Tconj.{Tconj}
-use Rattle.clifford.specs.Job6.{letters, axisWord, Ranged, Product, Inverse, Split}
-use Rattle.clifford.specs.Words.{_≈_, by-test, by-refl, by-eq, by-sym, _⨾_, join, under, before, other-side, lessened, cycles, exes, esses, doubleyous, pass, pass-S}
-use Rattle.clifford.specs.Tables.{quadruple, conj2, conj3, cinv, tconj, Row2, Row3, RowInv, RowT, conj2-right, conj3-right, conj3-ranged, cinv-right, tconj-right}
+use Rattle.clifford.specs.Job6.{letters, axisWord, reduced, Ranged, Reduced, Product, Inverse, Split}
+use Rattle.clifford.specs.Remainder.{reduced-back}
+use Rattle.clifford.specs.Words.{_≈_, by-test, by-refl, by-eq, by-sym, _⨾_, join, under, before, other-side, lessened, cycles, exes}
+use Rattle.clifford.specs.Words.{esses, doubleyous, pass, pass-S}
+use Rattle.clifford.specs.Tables.{quadruple, conj2, conj3, cinv, tconj, Row2, Row3, RowInv, RowT, conj2-right, conj3-right}
+use Rattle.clifford.specs.Tables.{conj3-ranged, cinv-right, tconj-right}
 
 -- ---- the numbers brought into their ranges
 abbrev pub reduce : ℕ → ℕ → ℕ → ℕ → Clifford
@@ -34,7 +41,11 @@ mulC x y =
     reduce (x .a + r .a) (r .b + y .b) (s .c + y .c) (r .d + s .d + x .d + y .d)
 
 -- X^b S^c E^a past one another, and then S past X, with every omega at the end
-arranged : (A B C A′ B′ C′ E X₁ S₁ S₂ : List Letter) (d d′ d₁ d₂ : ℕ) → B ++ (C ++ A′) ≈ E ++ (X₁ ++ (S₁ ++ times d₁ W)) → S₁ ++ B′ ≈ B′ ++ (S₂ ++ times d₂ W) → (A ++ (B ++ (C ++ times d W))) ++ (A′ ++ (B′ ++ (C′ ++ times d′ W))) ≈ (A ++ E) ++ ((X₁ ++ B′) ++ ((S₂ ++ C′) ++ (times d′ W ++ (times d W ++ (times d₁ W ++ times d₂ W)))))
+arranged : (A B C A′ B′ C′ E X₁ S₁ S₂ : List Letter) (d d′ d₁ d₂ : ℕ)
+    → B ++ (C ++ A′) ≈ E ++ (X₁ ++ (S₁ ++ times d₁ W))
+    → S₁ ++ B′ ≈ B′ ++ (S₂ ++ times d₂ W)
+    → (A ++ (B ++ (C ++ times d W))) ++ (A′ ++ (B′ ++ (C′ ++ times d′ W)))
+    ≈ (A ++ E) ++ ((X₁ ++ B′) ++ ((S₂ ++ C′) ++ (times d′ W ++ (times d W ++ (times d₁ W ++ times d₂ W)))))
 arranged A B C A′ B′ C′ E X₁ S₁ S₂ d d′ d₁ d₂ three two =
     by-eq {v = A ++ (B ++ (C ++ (D ++ R)))} (simp append-assoc)
     ⨾ under A (under B (under C (pass d R)))
@@ -59,7 +70,10 @@ arranged A B C A′ B′ C′ E X₁ S₁ S₂ d d′ d₁ d₂ three two =
 
 pub mul-right : (x y : Clifford) → Ranged x → Ranged y → Product x y (mulC x y)
 unfolding mulC
-mul-right x y hx hy = record { ranged = reduce-ranged (x .a + r .a) (r .b + y .b) (s .c + y .c) (r .d + s .d + x .d + y .d); same = by-sym whole .same }
+mul-right x y hx hy = record {
+  ranged = reduce-ranged (x .a + r .a) (r .b + y .b) (s .c + y .c) (r .d + s .d + x .d + y .d);
+  same = by-sym whole .same;
+}
   where
     r : Clifford
     r = conj3 (y .a * 8 + x .b * 4 + x .c)
@@ -70,16 +84,31 @@ mul-right x y hx hy = record { ranged = reduce-ranged (x .a + r .a) (r .b + y .b
     hr : Ranged (conj3 (y .a * 8 + x .b * 4 + x .c))
     hr = conj3-ranged (y .a * 8 + x .b * 4 + x .c) (omega (arith, hx .b-few, hx .c-few, hy .a-few))
 
-    gathered : (A E X₁ B′ S₂ C′ D′ D W₁ W₂ : ℕ) → (cycle A ++ cycle E) ++ ((times X₁ X ++ times B′ X) ++ ((times S₂ S ++ times C′ S) ++ (times D′ W ++ (times D W ++ (times W₁ W ++ times W₂ W))))) ≡ letters (quadruple (A + E) (X₁ + B′) (S₂ + C′) (D′ + (D + (W₁ + W₂))))
+    gathered : (A E X₁ B′ S₂ C′ D′ D W₁ W₂ : ℕ)
+        → (cycle A ++ cycle E)
+        ++ ((times X₁ X ++ times B′ X) ++ ((times S₂ S ++ times C′ S) ++ (times D′ W ++ (times D W ++ (times W₁ W ++ times W₂ W)))))
+        ≡ letters (quadruple (A + E) (X₁ + B′) (S₂ + C′) (D′ + (D + (W₁ + W₂))))
     gathered A E X₁ B′ S₂ C′ D′ D W₁ W₂ =
-        rw (cycles .add A E, exes .add X₁ B′, esses .add S₂ C′, doubleyous .add D′ (D + (W₁ + W₂)), doubleyous .add D (W₁ + W₂), doubleyous .add W₁ W₂)
+        rw (
+          cycles .add A E,
+          exes .add X₁ B′,
+          esses .add S₂ C′,
+          doubleyous .add D′ (D + (W₁ + W₂)),
+          doubleyous .add D (W₁ + W₂),
+          doubleyous .add W₁ W₂,
+        )
 
     ordered : r .d + s .d + x .d + y .d ≡ y .d + (x .d + (r .d + s .d))
     ordered = omega arith
 
     whole : letters x ++ letters y ≈ letters (mulC x y)
     whole =
-        arranged (cycle (x .a)) (times (x .b) X) (times (x .c) S) (cycle (y .a)) (times (y .b) X) (times (y .c) S) (cycle (r .a)) (times (r .b) X) (times (r .c) S) (times (s .c) S) (x .d) (y .d) (r .d) (s .d) (conj3-right (y .a) (x .b) (x .c) (hy .a-few) (hx .b-few) (hx .c-few)) (conj2-right (r .c) (y .b) (hr .c-few) (hy .b-few))
+        arranged (cycle (x .a)) (times (x .b) X) (times (x .c) S)
+        (cycle (y .a)) (times (y .b) X) (times (y .c) S)
+        (cycle (r .a)) (times (r .b) X) (times (r .c) S) (times (s .c) S)
+        (x .d) (y .d) (r .d) (s .d)
+        (conj3-right (y .a) (x .b) (x .c) (hy .a-few) (hx .b-few) (hx .c-few))
+        (conj2-right (r .c) (y .b) (hr .c-few) (hy .b-few))
         ⨾ by-eq (gathered (x .a) (r .a) (r .b) (y .b) (s .c) (y .c) (y .d) (x .d) (r .d) (s .d))
         ⨾ by-eq (ap (λ n. letters (quadruple (x .a + r .a) (r .b + y .b) (s .c + y .c) n)) (sym ordered))
         ⨾ reduce-same (x .a + r .a) (r .b + y .b) (s .c + y .c) (r .d + s .d + x .d + y .d)
@@ -116,17 +145,29 @@ inv-right x hx = record { ranged = inv-ranged x; after = undone .same; before = 
     filled : (A B C : List Letter) (n d : ℕ) → d ≤ 8 → (A ++ (B ++ (C ++ times (n + (8 - d)) W))) ++ times d W ≈ A ++ (B ++ (C ++ times n W))
     filled A B C n d h =
         by-eq {v = A ++ (B ++ (C ++ (times (n + (8 - d)) W ++ times d W)))} (simp append-assoc)
-        ⨾ under A (under B (under C (by-eq (sym (doubleyous .add (n + (8 - d)) d) ∙ ap (λ k. times k W) (eight n d h) ∙ doubleyous .add n 8) ⨾ under (times n W) (doubleyous .round) ⨾ by-eq (append-nil (times n W)))))
+        ⨾ under A (under B (under C round))
       where
-        eight : (n d : ℕ) → d ≤ 8 → n + (8 - d) + d ≡ n + 8
-        eight n d h = omega arith
+        eight : n + (8 - d) + d ≡ n + 8
+        eight = omega arith
+
+        round : times (n + (8 - d)) W ++ times d W ≈ times n W
+        round =
+            by-eq (sym (doubleyous .add (n + (8 - d)) d) ∙ ap (λ k. times k W) eight ∙ doubleyous .add n 8)
+            ⨾ under (times n W) (doubleyous .round)
+            ⨾ by-eq (append-nil (times n W))
+
+    front : List Letter
+    front = cycle (x .a) ++ (times (x .b) X ++ times (x .c) S)
+
+    row : List Letter
+    row = letters (quadruple (r .a) (r .b) (r .c) (r .d + (8 - x .d)))
 
     undone : letters x ++ letters (invC x) ≈ []
     undone =
         under (letters x) (by-sym (reduce-same (r .a) (r .b) (r .c) (r .d + (8 - x .d))))
-        ⨾ turned (cycle (x .a)) (times (x .b) X) (times (x .c) S) (letters (quadruple (r .a) (r .b) (r .c) (r .d + (8 - x .d)))) (x .d)
-        ⨾ by-eq {v = (cycle (x .a) ++ (times (x .b) X ++ times (x .c) S)) ++ (letters (quadruple (r .a) (r .b) (r .c) (r .d + (8 - x .d))) ++ times (x .d) W)} (simp append-assoc)
-        ⨾ under (cycle (x .a) ++ (times (x .b) X ++ times (x .c) S)) (filled (cycle (r .a)) (times (r .b) X) (times (r .c) S) (r .d) (x .d) (omega (arith, hx .d-few)))
+        ⨾ turned (cycle (x .a)) (times (x .b) X) (times (x .c) S) row (x .d)
+        ⨾ by-eq {v = front ++ (row ++ times (x .d) W)} (simp append-assoc)
+        ⨾ under front (filled (cycle (r .a)) (times (r .b) X) (times (r .c) S) (r .d) (x .d) (omega (arith, hx .d-few)))
         ⨾ by-eq (simp append-assoc)
         ⨾ cinv-right (x .a) (x .b) (x .c) (hx .a-few) (hx .b-few) (hx .c-few)
 
@@ -196,8 +237,18 @@ taken q x u hq hx h =
 split-is : (n : ℕ) (x : Clifford) → Ranged x → x .a ≡ n → Split x (splitAt n x)
 unfolding mulC invC
 split-is zero x hx e = record { ranged = hx; axis-is = sym e; rest-a = e; same = by-refl (letters x) .same }
-split-is (suc zero) x hx e = record { ranged = mul-ranged (invC cliffordH) x; axis-is = sym e; rest-a = rw e; same = taken cliffordH x (H ∷ []) H-ranged hx H-is .same }
-split-is (suc (suc zero)) x hx e = record { ranged = mul-ranged (invC cliffordSH) x; axis-is = sym e; rest-a = rw e; same = taken cliffordSH x (S ∷ H ∷ []) SH-ranged hx SH-is .same }
+split-is (suc zero) x hx e = record {
+  ranged = mul-ranged (invC cliffordH) x;
+  axis-is = sym e;
+  rest-a = rw e;
+  same = taken cliffordH x (H ∷ []) H-ranged hx H-is .same;
+}
+split-is (suc (suc zero)) x hx e = record {
+  ranged = mul-ranged (invC cliffordSH) x;
+  axis-is = sym e;
+  rest-a = rw e;
+  same = taken cliffordSH x (S ∷ H ∷ []) SH-ranged hx SH-is .same;
+}
 split-is (suc (suc (suc n))) x hx e = absurd (omega (arith, hx .a-few))
 
 pub split-right : (x : Clifford) → Ranged x → Split x (splitC x)
@@ -220,7 +271,8 @@ tconj-same x hx =
     r : Tconj
     r = tconj (x .a * 2 + x .b)
 
-    passed : (A B F : List Letter) (c d c′ d′ : ℕ) → A ++ (B ++ (T′ ∷ [])) ≈ F ++ (T′ ∷ (B ++ (times c′ S ++ times d′ W))) → (A ++ (B ++ (times c S ++ times d W))) ++ (T′ ∷ []) ≈ F ++ (T′ ∷ (B ++ (times (c + c′) S ++ times (d + d′) W)))
+    passed : (A B F : List Letter) (c d c′ d′ : ℕ) → A ++ (B ++ (T′ ∷ [])) ≈ F ++ (T′ ∷ (B ++ (times c′ S ++ times d′ W)))
+        → (A ++ (B ++ (times c S ++ times d W))) ++ (T′ ∷ []) ≈ F ++ (T′ ∷ (B ++ (times (c + c′) S ++ times (d + d′) W)))
     passed A B F c d c′ d′ h =
         by-eq {v = A ++ (B ++ (times c S ++ (times d W ++ (T′ ∷ []))))} (simp append-assoc)
         ⨾ under A (under B (under (times c S) (pass d (T′ ∷ []))))
@@ -234,36 +286,58 @@ tconj-same x hx =
         ⨾ by-eq (rw (← esses .add c′ c, ← doubleyous .add d d′, native.Mathlib.Nat.add-comm c′ c))
 
 -- ---- what the program does, row by row
-pub mul-by : (x y r : Clifford) (s : Conj2) → Row3 (y .a * 8 + x .b * 4 + x .c) r → Row2 (r .c * 2 + y .b) s → reduce (x .a + r .a) (r .b + y .b) (s .c + y .c) (r .d + s .d + x .d + y .d) ≡ mulC x y
+abbrev coset : Axis → Clifford → Coset
+coset w r = record { axis = w; rest = r }
+
+pub mul-by : (x y r q : Clifford) (s : Conj2) → Row3 (y .a * 8 + x .b * 4 + x .c) r → Row2 (r .c * 2 + y .b) s
+    → q ≡ reduce (x .a + r .a) (r .b + y .b) (s .c + y .c) (r .d + s .d + x .d + y .d) → q ≡ mulC x y
 unfolding mulC
-mul-by x y r s p q = rw (q .is, p .is)
+mul-by x y r q s three two e = e ∙ rw (two .is, three .is)
 
-pub inv-by : (x r : Clifford) → RowInv (x .a * 8 + x .b * 4 + x .c) r → reduce (r .a) (r .b) (r .c) (r .d + (8 - x .d)) ≡ invC x
+pub inv-by : (x r q : Clifford) → RowInv (x .a * 8 + x .b * 4 + x .c) r → q ≡ reduce (r .a) (r .b) (r .c) (r .d + (8 - x .d)) → q ≡ invC x
 unfolding invC
-inv-by x r p = rw (p .is)
+inv-by x r q row e = e ∙ rw (row .is)
 
-pub tconj-by : (x q : Clifford) (r : Tconj) → RowT (x .a * 2 + x .b) r → q ≡ reduce 0 (x .b) (x .c + r .c) (x .d + r .d) → _≡_ {A = Coset} (record { axis = r .axis; rest = q }) (tconjC x)
+pub tconj-by : (x q : Clifford) (r : Tconj) → RowT (x .a * 2 + x .b) r → q ≡ reduce 0 (x .b) (x .c + r .c) (x .d + r .d)
+    → coset (r .axis) q ≡ tconjC x
 unfolding tconjC
 tconj-by x q r p e = rw (e, p .is)
 
-pub split-by : (x : Clifford) (n : ℕ) → x .a ≡ n → _≡_ {A = Coset} (splitAt n x) (splitC x)
-split-by x n e = rw e
-
 -- what is neither 0 nor 1 is 2
-pub split-last : (x : Clifford) → (x .a ≡ 0 → ⊥) → (x .a ≡ 1 → ⊥) → _≡_ {A = Coset} (splitAt 2 x) (splitC x)
-split-last x f g = go (x .a) f g
+last : (x : Clifford) → (x .a ≡ 0 → ⊥) → (x .a ≡ 1 → ⊥) → splitAt 2 x ≡ splitC x
+last x f g = go (x .a) f g
   where
-    go : (n : ℕ) → (n ≡ 0 → ⊥) → (n ≡ 1 → ⊥) → _≡_ {A = Coset} (splitAt 2 x) (splitAt n x)
+    go : (n : ℕ) → (n ≡ 0 → ⊥) → (n ≡ 1 → ⊥) → splitAt 2 x ≡ splitAt n x
     go zero f g = absurd (f refl)
     go (suc zero) f g = absurd (g refl)
     go (suc (suc n)) f g = refl
 
--- ---- job 6
-pub product-job : (x y x′ y′ r : Clifford) → x ≡ x′ → y ≡ y′ → Ranged x → Ranged y → r ≡ mulC x y → Product x′ y′ r
-product-job x y x′ y′ r e f hx hy g = rw (← e, ← f, g) (mul-right x y hx hy)
+-- q is the axis's inverse and r is q times x
+module _ (x : Clifford) where
+  pub split-none : x .a ≡ 0 → coset Axis.I x ≡ splitC x
+  split-none e = rw e
 
-pub inverse-job : (x x′ r : Clifford) → x ≡ x′ → Ranged x → r ≡ invC x → Inverse x′ r
-inverse-job x x′ r e hx g = rw (← e, g) (inv-right x hx)
+  pub split-H : x .a ≡ 1 → (q r : Clifford) → q ≡ invC cliffordH → r ≡ mulC q x → coset Axis.H r ≡ splitC x
+  split-H e q r f g = rw (g, f, e)
 
-pub split-job : (x x′ : Clifford) (r : Coset) → x ≡ x′ → Ranged x → r ≡ splitC x → Split x′ r
-split-job x x′ r e hx g = rw (← e, g) (split-right x hx)
+  pub split-SH : (x .a ≡ 0 → ⊥) → (x .a ≡ 1 → ⊥) → (q r : Clifford) → q ≡ invC cliffordSH → r ≡ mulC q x → coset Axis.SH r ≡ splitC x
+  split-SH m n q r f g = rw (g, f) (last x m n)
+
+-- ---- job 6: x is what the program made of four numbers
+abbrev Read : ℤ → ℤ → ℤ → ℤ → Clifford → Type 0
+Read a b c d x = Reduced (held w32 a) (held w32 b) (held w32 c) (held w32 d) x
+
+module _ (a b c d : ℤ) (fa : SFits w32 a) (fb : SFits w32 b) (fc : SFits w32 c) (fd : SFits w32 d) (x : Clifford) (read : Read a b c d x) where
+  read-is : reduced a b c d ≡ x
+  read-is = sym (read .is ∙ reduced-back a b c d fa fb fc fd)
+
+  pub inverse-job : (r : Clifford) → r ≡ invC x → Inverse (reduced a b c d) r
+  inverse-job r g = rw (read-is, g) (inv-right x (read .ranged))
+
+  pub split-job : (r : Coset) → r ≡ splitC x → Split (reduced a b c d) r
+  split-job r g = rw (read-is, g) (split-right x (read .ranged))
+
+  pub product-job : (e f g h : ℤ) → SFits w32 e → SFits w32 f → SFits w32 g → SFits w32 h → (y r : Clifford) → Read e f g h y
+      → r ≡ mulC x y → Product (reduced a b c d) (reduced e f g h) r
+  product-job e f g h fe ff fg fh y r other i =
+      rw (read-is, sym (other .is ∙ reduced-back e f g h fe ff fg fh), i) (mul-right x y (read .ranged) (other .ranged))

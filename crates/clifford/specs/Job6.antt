@@ -79,7 +79,8 @@ pub Product-unique : (x y r s : Clifford) → Product x y r → Product x y s �
 Product-unique x y r s p q = one-Clifford r s (p .ranged) (q .ranged) (Same-trans (p .same) (Same-sym (q .same)))
 
 pub Inverse-unique : (x r s : Clifford) → Inverse x r → Inverse x s → r ≡ s
-Inverse-unique x r s p q = one-Clifford r s (p .ranged) (q .ranged) (strike-word (letters x) (letters r) (letters s) (Same-trans (p .after) (Same-sym (q .after))))
+Inverse-unique x r s p q =
+    one-Clifford r s (p .ranged) (q .ranged) (strike-word (letters x) (letters r) (letters s) (Same-trans (p .after) (Same-sym (q .after))))
 
 abbrev axisOf : ℕ → Axis
 axisOf zero = Axis.I
@@ -112,7 +113,12 @@ modulo-few (pos n) m h = mod-lt n h
 modulo-few (negsuc n) m h = omega arith
 
 pub reduced-ranged : (a b c d : ℤ) → Ranged (reduced a b c d)
-reduced-ranged a b c d = record { a-few = modulo-few a 3 (omega arith); b-few = modulo-few b 2 (omega arith); c-few = modulo-few c 4 (omega arith); d-few = modulo-few d 8 (omega arith) }
+reduced-ranged a b c d = record {
+  a-few = modulo-few a 3 (omega arith);
+  b-few = modulo-few b 2 (omega arith);
+  c-few = modulo-few c 4 (omega arith);
+  d-few = modulo-few d 8 (omega arith);
+}
 
 pub record Reduced (a b c d : ℤ) (r : Clifford) : Type 0 where
   pub is : r ≡ reduced a b c d
@@ -126,7 +132,11 @@ pub record Remainder (z : ℤ) (m r : ℕ) : Type 0 where
 
 pub modulo-is : (z : ℤ) (m : ℕ) → 0 < m → Remainder z m (modulo z m)
 modulo-is (pos n) m h = record { small = modulo-few (pos n) m h; quotient = pos (n / m); is = ap pos (sym (div-add-mod' n m)) }
-modulo-is (negsuc n) m h = record { small = modulo-few (negsuc n) m h; quotient = negsuc (n / m); is = below (suc (n / m) * m) (n % m) n m turns (mod-lt n h) (omega (arith, div-add-mod' n m)) }
+modulo-is (negsuc n) m h = record {
+  small = modulo-few (negsuc n) m h;
+  quotient = negsuc (n / m);
+  is = below (suc (n / m) * m) (n % m) n m turns (mod-lt n h) (omega (arith, div-add-mod' n m));
+}
   where
     turns : suc (n / m) * m ≡ n - n % m + m
     turns = rw (suc-mul (n / m) m) (omega (arith, div-add-mod' n m))

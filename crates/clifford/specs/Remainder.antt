@@ -86,10 +86,13 @@ module _ (x : ℤ) (m : ℕ) (h : 0 < m) (f : SFits w32 x) where
   x-modulo e = rw back (above-is x m (rw back at e))
 
 -- four numbers read back, and their remainders
-pub reduced-back : (a b c d : ℤ) → SFits w32 a → SFits w32 b → SFits w32 c → SFits w32 d → reduced (held w32 a) (held w32 b) (held w32 c) (held w32 d) ≡ reduced a b c d
+pub reduced-back : (a b c d : ℤ) → SFits w32 a → SFits w32 b → SFits w32 c → SFits w32 d
+    → reduced (held w32 a) (held w32 b) (held w32 c) (held w32 d) ≡ reduced a b c d
 reduced-back a b c d fa fb fc fd = rw (toZ-ofZ fa, toZ-ofZ fb, toZ-ofZ fc, toZ-ofZ fd)
 
-pub reduced-by : (a b c d : ℤ) → SFits w32 a → SFits w32 b → SFits w32 c → SFits w32 d → (p q r s : ℕ) → p ≡ modulo (held w32 a) 3 → q ≡ modulo (held w32 b) 2 → r ≡ modulo (held w32 c) 4 → s ≡ modulo (held w32 d) 8 → Reduced a b c d (record { a = p; b = q; c = r; d = s })
+pub reduced-by : (a b c d : ℤ) → SFits w32 a → SFits w32 b → SFits w32 c → SFits w32 d → (p q r s : ℕ) → p ≡ modulo (held w32 a) 3
+    → q ≡ modulo (held w32 b) 2 → r ≡ modulo (held w32 c) 4 → s ≡ modulo (held w32 d) 8
+    → Reduced a b c d (record { a = p; b = q; c = r; d = s })
 reduced-by a b c d fa fb fc fd p q r s e f g h = record { is = is; ranged = subst Ranged (sym is) (reduced-ranged a b c d) }
   where
     is : _≡_ {A = Clifford} (record { a = p; b = q; c = r; d = s }) (reduced a b c d)

@@ -218,7 +218,9 @@ tconj-word a b = axisWord (tconj (a * 2 + b) .axis) ++ (T′ ∷ (times b X ++ (
 tconj-table : T (all 3 (λ a. all 2 (λ b. sameTest (word (tconj-left a b)) (word (tconj-word a b)))))
 tconj-table = tt
 
-pub tconj-right : (a b : ℕ) → a < 3 → b < 2 → cycle a ++ (times b X ++ (T′ ∷ [])) ≈ axisWord (tconj (a * 2 + b) .axis) ++ (T′ ∷ (times b X ++ (times (tconj (a * 2 + b) .c) S ++ times (tconj (a * 2 + b) .d) W)))
+pub tconj-right : (a b : ℕ) → a < 3 → b < 2
+    → cycle a ++ (times b X ++ (T′ ∷ []))
+    ≈ axisWord (tconj (a * 2 + b) .axis) ++ (T′ ∷ (times b X ++ (times (tconj (a * 2 + b) .c) S ++ times (tconj (a * 2 + b) .d) W)))
 tconj-right a b ha hb =
     by-test (tconj-left a b) (tconj-word a b)
     (at 2 (λ b. sameTest (word (tconj-left a b)) (word (tconj-word a b)))

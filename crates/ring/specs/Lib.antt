@@ -1,3 +1,4 @@
 -- Ring numbers of 64-bit coefficients, tied to the exact ones.
 pub mod Number
 pub mod Code
+pub mod Parities

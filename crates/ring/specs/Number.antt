@@ -1,7 +1,7 @@
 -- A machine's ring number as the exact one, and its size. Assumes nothing.
 use mathlib.Core.Path.{_≡_, sym, _∙_, ap}
 use mathlib.Core.List.{List, [], _∷_}
-use Prim.Native.Nat.{ℕ, _-_, _^_}
+use Prim.Native.Nat.{ℕ, _-_, _^_, _<_}
 use native.Mathlib.Omega.{arith}
 use lib.IntN.{ℤ, pos, _-ℤ_}
 use Rattle.exact.specs.Meaning.Number.{Quad, Ω, ints, quads, power, mulQ, omega′, omega^}
@@ -25,7 +25,9 @@ four x xs = x .a ∷ x .b ∷ x .c ∷ x .d ∷ xs
 
 -- times omega, as the machine does it
 pub turned : (x : Ω) → mulQ ints (omega′ ints) x ≡ record { a = x .b; b = x .c; c = x .d; d = pos 0 -ℤ x .a }
-turned x = solveQ ints ints-laws (parts x []) (mulQ exprs (omega′ exprs) X₀) (record { a = X₀ .b; b = X₀ .c; c = X₀ .d; d = con (pos 0) ⊝ X₀ .a }) (tt, tt, tt, tt)
+turned x =
+    solveQ ints ints-laws (parts x []) (mulQ exprs (omega′ exprs) X₀) (record { a = X₀ .b; b = X₀ .c; c = X₀ .d; d = con (pos 0) ⊝ X₀ .a })
+    (tt, tt, tt, tt)
 
 -- each half, rounded down
 abbrev pub halves : Ω → Ω
@@ -50,8 +52,38 @@ module _ (x : Ω) where
 
 pub small-back : {x r : ZOmega} → Small x → quad r ≡ mulQ ints (omega^ 7) (quad x) → Small r
 small-back {x} s e =
-    record { sized = rw (e ∙ turned-back (quad x)) (record { a-small = omega (arith, natAbs-sub (pos 0) (x .d), s .sized .d-small); b-small = s .sized .a-small; c-small = s .sized .b-small; d-small = s .sized .c-small }) }
+    record {
+      sized =
+          rw (e ∙ turned-back (quad x))
+          (record {
+            a-small = omega (arith, natAbs-sub (pos 0) (x .d), s .sized .d-small);
+            b-small = s .sized .a-small;
+            c-small = s .sized .b-small;
+            d-small = s .sized .c-small;
+          });
+    }
 
--- what a number is by the power that m is
-pub power-at : {y : Ω} (x : Ω) (m j : ℕ) → m ≡ j → y ≡ mulQ ints (omega^ (8 - j)) x → y ≡ mulQ ints (omega^ (8 - m)) x
+-- ---- what a number is by the power that m is, y, z and r being x by the inverse once, twice and three times
+power-at : {y : Ω} (x : Ω) (m j : ℕ) → m ≡ j → y ≡ mulQ ints (omega^ (8 - j)) x → y ≡ mulQ ints (omega^ (8 - m)) x
 power-at x m j e h = h ∙ ap (λ i. mulQ ints (omega^ (8 - i)) x) (sym e)
+
+abbrev Back : ZOmega → ZOmega → Type 0
+Back x y = quad y ≡ mulQ ints (omega^ 7) (quad x)
+
+module _ (x : ZOmega) (m : ℕ) where
+  pub power-none : m ≡ 0 → quad x ≡ mulQ ints (omega^ (8 - m)) (quad x)
+  power-none e = power-at (quad x) m 0 e (turned-whole (quad x))
+
+  pub power-once : (y : ZOmega) → Back x y → m ≡ 1 → quad y ≡ mulQ ints (omega^ (8 - m)) (quad x)
+  power-once y h e = power-at (quad x) m 1 e h
+
+  twice : (y z : ZOmega) → Back x y → Back y z → quad z ≡ mulQ ints (omega^ 6) (quad x)
+  twice y z h k = k ∙ ap (mulQ ints (omega^ 7)) h ∙ turned-twice (quad x)
+
+  pub power-twice : (y z : ZOmega) → Back x y → Back y z → m ≡ 2 → quad z ≡ mulQ ints (omega^ (8 - m)) (quad x)
+  power-twice y z h k e = power-at (quad x) m 2 e (twice y z h k)
+
+  pub power-thrice : (y z r : ZOmega) → Back x y → Back y z → Back z r → m < 4 → (m ≡ 0 → ⊥) → (m ≡ 1 → ⊥) → (m ≡ 2 → ⊥)
+      → quad r ≡ mulQ ints (omega^ (8 - m)) (quad x)
+  power-thrice y z r h k l few n₀ n₁ n₂ =
+      power-at (quad x) m 3 (omega arith) (l ∙ ap (mulQ ints (omega^ 7)) (twice y z h k) ∙ turned-thrice (quad x))

@@ -1,9 +1,6 @@
 -- `clifford::clifford_split` meets its contract. Assumes nothing.
-use mathlib.Core.Path.{_∙_}
 use borrow.Author.Needs.{needs}
 use Rattle.clifford.specs.Cliffords.{split-job}
-use Rattle.clifford.specs.Job6.{reduced}
-use Rattle.clifford.specs.Remainder.{reduced-back}
 use Rattle.clifford.proofs.clifford_split.Statement.{statement}
 use Rattle.clifford.proofs.clifford_split.Tie as tie
 
@@ -14,10 +11,7 @@ decompose-coset-requires : tie.Need-decompose-coset-requires
 decompose-coset-requires c κs = c .new .ensures .ranged
 
 returns : tie.Need-returns
-returns c =
-    let the-args = c .before .before .args in
-    let the-fits = c .before .before .fits in
-    split-job (c .before .new .result) (reduced (the-args .a) (the-args .b) (the-args .c) (the-args .d)) (c .decompose-coset .result) (c .before .new .ensures .is ∙ reduced-back (the-args .a) (the-args .b) (the-args .c) (the-args .d) (the-fits .a) (the-fits .b) (the-fits .c) (the-fits .d)) (c .before .new .ensures .ranged) (c .decompose-coset .ensures)
+returns c = search (needs, split-job)
 
 pub clifford-split-spec : {M : Type 1} → statement M
 clifford-split-spec = tie.close (tie.spec new-requires decompose-coset-requires returns)

@@ -88,7 +88,8 @@ pub norm-residue : (x : Ω) → residue (norm x) ≡ normResidue (odd (x .a)) (o
 norm-residue x =
     ap residue (norm-is x)
     ∙ ap₂ (λ p q. bit p * 8 + 0 * 4 + bit q * 2 + bit (odd (squares ints x))) (odd-neg (crosses ints x) ∙ odd-crosses x) (odd-crosses x)
-    ∙ ap (λ r. bit (oddCrosses (odd (x .a)) (odd (x .b)) (odd (x .c)) (odd (x .d))) * 8 + 0 * 4 + bit (oddCrosses (odd (x .a)) (odd (x .b)) (odd (x .c)) (odd (x .d))) * 2 + bit r) (odd-squares x)
+    ∙ ap (λ r. bit (oddCrosses (odd (x .a)) (odd (x .b)) (odd (x .c)) (odd (x .d))) * 8 + 0 * 4
+    + bit (oddCrosses (odd (x .a)) (odd (x .b)) (odd (x .c)) (odd (x .d))) * 2 + bit r) (odd-squares x)
 
 -- a test at both truth values
 abbrev both : (Bool → Bool) → Bool
@@ -99,12 +100,17 @@ both-at f t true = and-yes (f true) (f false) t .0
 both-at f t false = and-yes (f true) (f false) t .1
 
 -- a test of four parities, at all sixteen
-pub all-parities : (f : Bool → Bool → Bool → Bool → Bool) → T (both (λ a. both (λ b. both (λ c. both (λ d. f a b c d))))) → (a b c d : Bool) → T (f a b c d)
+pub all-parities : (f : Bool → Bool → Bool → Bool → Bool) → T (both (λ a. both (λ b. both (λ c. both (λ d. f a b c d))))) → (a b c d : Bool)
+    → T (f a b c d)
 all-parities f t a b c d =
-    both-at (λ d. f a b c d) (both-at (λ c. both (λ d. f a b c d)) (both-at (λ b. both (λ c. both (λ d. f a b c d))) (both-at (λ a. both (λ b. both (λ c. both (λ d. f a b c d)))) t a) b) c) d
+    both-at (λ d. f a b c d)
+    (both-at (λ c. both (λ d. f a b c d))
+    (both-at (λ b. both (λ c. both (λ d. f a b c d))) (both-at (λ a. both (λ b. both (λ c. both (λ d. f a b c d)))) t a) b) c) d
 
 pub no-1011 : (x : Ω) → residue (norm x) ≡ 0b1011 → ⊥
-no-1011 x e = told (all-parities (λ a b c d. not (eqb (normResidue a b c d) 0b1011)) tt (odd (x .a)) (odd (x .b)) (odd (x .c)) (odd (x .d))) (sym (norm-residue x) ∙ e)
+no-1011 x e =
+    told (all-parities (λ a b c d. not (eqb (normResidue a b c d) 0b1011)) tt (odd (x .a)) (odd (x .b)) (odd (x .c)) (odd (x .d)))
+    (sym (norm-residue x) ∙ e)
   where
     told : {m n : ℕ} → T (not (eqb m n)) → m ≡ n → ⊥
     told {m} {n} t p = eqb-false m n (go (eqb m n) t) p

@@ -37,7 +37,12 @@ abbrev pub SameQ : Quad Expr → Quad Expr → Type 0
 SameQ e f = T (same (e .a) (f .a)) × T (same (e .b) (f .b)) × T (same (e .c) (f .c)) × T (same (e .d) (f .d))
 
 pub solveQ : (O : Ops) → Laws O → (xs : List (O .Car)) (e f : Quad Expr) → SameQ e f → evalQ O xs e ≡ evalQ O xs f
-solveQ O L xs e f t = quad-path (solve O L xs (e .a) (f .a) (t .0)) (solve O L xs (e .b) (f .b) (t .1)) (solve O L xs (e .c) (f .c) (t .2)) (solve O L xs (e .d) (f .d) (t .3))
+solveQ O L xs e f t =
+    quad-path
+    (solve O L xs (e .a) (f .a) (t .0))
+    (solve O L xs (e .b) (f .b) (t .1))
+    (solve O L xs (e .c) (f .c) (t .2))
+    (solve O L xs (e .d) (f .d) (t .3))
 
 -- ---- the laws
 module _ (O : Ops) (L : Laws O) where
@@ -46,16 +51,24 @@ module _ (O : Ops) (L : Laws O) where
 
   pub quads-laws : Laws (quads O)
   quads-laws = record {
-    add-assoc = λ x y z. solveQ O L (parts x (parts y (parts z []))) (addQ exprs (addQ exprs X₀ X₁) X₂) (addQ exprs X₀ (addQ exprs X₁ X₂)) (tt, tt, tt, tt);
+    add-assoc = λ x y z.
+        solveQ O L (parts x (parts y (parts z []))) (addQ exprs (addQ exprs X₀ X₁) X₂) (addQ exprs X₀ (addQ exprs X₁ X₂)) (tt, tt, tt, tt);
     add-comm = λ x y. solveQ O L (parts x (parts y [])) (addQ exprs X₀ X₁) (addQ exprs X₁ X₀) (tt, tt, tt, tt);
     zero-add = λ x. solveQ O L (parts x []) (addQ exprs (constQ exprs (pos 0)) X₀) X₀ (tt, tt, tt, tt);
     add-neg = λ x. solveQ O L (parts x []) (addQ exprs X₀ (negQ exprs X₀)) (constQ exprs (pos 0)) (tt, tt, tt, tt);
-    mul-assoc = λ x y z. solveQ O L (parts x (parts y (parts z []))) (mulQ exprs (mulQ exprs X₀ X₁) X₂) (mulQ exprs X₀ (mulQ exprs X₁ X₂)) (tt, tt, tt, tt);
+    mul-assoc = λ x y z.
+        solveQ O L (parts x (parts y (parts z []))) (mulQ exprs (mulQ exprs X₀ X₁) X₂) (mulQ exprs X₀ (mulQ exprs X₁ X₂)) (tt, tt, tt, tt);
     mul-comm = λ x y. solveQ O L (parts x (parts y [])) (mulQ exprs X₀ X₁) (mulQ exprs X₁ X₀) (tt, tt, tt, tt);
     one-mul = λ x. solveQ O L (parts x []) (mulQ exprs (constQ exprs (pos 1)) X₀) X₀ (tt, tt, tt, tt);
-    add-mul = λ x y z. solveQ O L (parts x (parts y (parts z []))) (mulQ exprs (addQ exprs X₀ X₁) X₂) (addQ exprs (mulQ exprs X₀ X₂) (mulQ exprs X₁ X₂)) (tt, tt, tt, tt);
-    const-add = λ m n. rw (L .const-add m n) (solveQ O L (O .const m ∷ O .const n ∷ []) (scalar (var 0 ⊕ var 1)) (addQ exprs (scalar (var 0)) (scalar (var 1))) (tt, tt, tt, tt));
-    const-mul = λ m n. rw (L .const-mul m n) (solveQ O L (O .const m ∷ O .const n ∷ []) (scalar (var 0 ⊗ var 1)) (mulQ exprs (scalar (var 0)) (scalar (var 1))) (tt, tt, tt, tt));
+    add-mul = λ x y z.
+        solveQ O L (parts x (parts y (parts z []))) (mulQ exprs (addQ exprs X₀ X₁) X₂) (addQ exprs (mulQ exprs X₀ X₂) (mulQ exprs X₁ X₂))
+        (tt, tt, tt, tt);
+    const-add = λ m n.
+        rw (L .const-add m n)
+        (solveQ O L (O .const m ∷ O .const n ∷ []) (scalar (var 0 ⊕ var 1)) (addQ exprs (scalar (var 0)) (scalar (var 1))) (tt, tt, tt, tt));
+    const-mul = λ m n.
+        rw (L .const-mul m n)
+        (solveQ O L (O .const m ∷ O .const n ∷ []) (scalar (var 0 ⊗ var 1)) (mulQ exprs (scalar (var 0)) (scalar (var 1))) (tt, tt, tt, tt));
   }
     where
       scalar : Expr → Quad Expr
@@ -75,11 +88,15 @@ module _ (O : Ops) (L : Laws O) where
   conj-conj x = solveQ O L (parts x []) (conjQ exprs (conjQ exprs X₀)) X₀ (tt, tt, tt, tt)
 
   pub conj-const : (n : ℤ) → conjQ O (constQ O n) ≡ constQ O n
-  conj-const n = solveQ O L (O .const n ∷ []) (conjQ exprs (record { a = con (pos 0); b = con (pos 0); c = con (pos 0); d = var 0 })) (record { a = con (pos 0); b = con (pos 0); c = con (pos 0); d = var 0 }) (tt, tt, tt, tt)
+  conj-const n =
+      solveQ O L (O .const n ∷ []) (conjQ exprs (record { a = con (pos 0); b = con (pos 0); c = con (pos 0); d = var 0 }))
+      (record { a = con (pos 0); b = con (pos 0); c = con (pos 0); d = var 0 }) (tt, tt, tt, tt)
 
   -- omega⁴ = -1, and root two squares to 2
   pub root-fourth : mulQ O (mulQ O (omega′ O) (omega′ O)) (mulQ O (omega′ O) (omega′ O)) ≡ constQ O (negsuc 0)
-  root-fourth = solveQ O L [] (mulQ exprs (mulQ exprs (omega′ exprs) (omega′ exprs)) (mulQ exprs (omega′ exprs) (omega′ exprs))) (constQ exprs (negsuc 0)) (tt, tt, tt, tt)
+  root-fourth =
+      solveQ O L [] (mulQ exprs (mulQ exprs (omega′ exprs) (omega′ exprs)) (mulQ exprs (omega′ exprs) (omega′ exprs)))
+      (constQ exprs (negsuc 0)) (tt, tt, tt, tt)
 
   pub root2-square : mulQ O (root2 O) (root2 O) ≡ constQ O (pos 2)
   root2-square = solveQ O L [] (mulQ exprs (root2 exprs) (root2 exprs)) (constQ exprs (pos 2)) (tt, tt, tt, tt)
@@ -90,7 +107,9 @@ omegas-laws = quads-laws ints ints-laws
 
 -- omega times
 pub times-omega : (x : Ω) → mulQ ints (omega′ ints) x ≡ record { a = x .b; b = x .c; c = x .d; d = negℤ (x .a) }
-times-omega x = solveQ ints ints-laws (parts x []) (mulQ exprs (omega′ exprs) X₀) (record { a = X₀ .b; b = X₀ .c; c = X₀ .d; d = ⊖ (X₀ .a) }) (tt, tt, tt, tt)
+times-omega x =
+    solveQ ints ints-laws (parts x []) (mulQ exprs (omega′ exprs) X₀) (record { a = X₀ .b; b = X₀ .c; c = X₀ .d; d = ⊖ (X₀ .a) })
+    (tt, tt, tt, tt)
 
 -- ---- conjugation goes through every polynomial
 abbrev pub conjs : List Ω → List Ω
@@ -105,8 +124,12 @@ conj-at (x ∷ xs) (suc i) = conj-at xs i
 pub conj-eval : (xs : List Ω) (e : Expr) → conjQ ints (eval omegas (at omegas xs) e) ≡ eval omegas (at omegas (conjs xs)) e
 conj-eval xs (var i) = conj-at xs i
 conj-eval xs (con n) = conj-const ints ints-laws n
-conj-eval xs (e ⊕ f) = conj-add ints ints-laws (eval omegas (at omegas xs) e) (eval omegas (at omegas xs) f) ∙ ap₂ (addQ ints) (conj-eval xs e) (conj-eval xs f)
-conj-eval xs (e ⊗ f) = conj-mul ints ints-laws (eval omegas (at omegas xs) e) (eval omegas (at omegas xs) f) ∙ ap₂ (mulQ ints) (conj-eval xs e) (conj-eval xs f)
+conj-eval xs (e ⊕ f) =
+    conj-add ints ints-laws (eval omegas (at omegas xs) e) (eval omegas (at omegas xs) f)
+    ∙ ap₂ (addQ ints) (conj-eval xs e) (conj-eval xs f)
+conj-eval xs (e ⊗ f) =
+    conj-mul ints ints-laws (eval omegas (at omegas xs) e) (eval omegas (at omegas xs) f)
+    ∙ ap₂ (mulQ ints) (conj-eval xs e) (conj-eval xs f)
 conj-eval xs (⊖ e) = conj-neg ints ints-laws (eval omegas (at omegas xs) e) ∙ ap (negQ ints) (conj-eval xs e)
 
 -- ---- root two

@@ -26,7 +26,8 @@ omega^-8 n = solveQ ints ints-laws (parts (omega^ n) []) (w (w (w (w (w (w (w (w
     w = mulQ exprs (omega′ exprs)
 
 -- what holds of the first eight, and goes on by eights, holds of all
-by-eights : (P : ℕ → Type 0) → P 0 → P 1 → P 2 → P 3 → P 4 → P 5 → P 6 → P 7 → ((n : ℕ) → P n → P (suc (suc (suc (suc (suc (suc (suc (suc n))))))))) → (n : ℕ) → P n
+by-eights : (P : ℕ → Type 0) → P 0 → P 1 → P 2 → P 3 → P 4 → P 5 → P 6 → P 7
+    → ((n : ℕ) → P n → P (suc (suc (suc (suc (suc (suc (suc (suc n))))))))) → (n : ℕ) → P n
 by-eights P a b c d e f g h s zero = a
 by-eights P a b c d e f g h s (suc zero) = b
 by-eights P a b c d e f g h s (suc (suc zero)) = c
@@ -56,6 +57,7 @@ pub omega^-conj : (n : ℕ) → mulQ ints (omega^ n) (conjQ ints (omega^ n)) ≡
 omega^-conj zero = refl
 omega^-conj (suc n) =
     ap (mulQ ints (omega^ (suc n))) (conj-mul ints ints-laws (omega′ ints) (omega^ n))
-    ∙ ring₄ omegas omegas-laws (λ a x b y. (a ⊗ x) ⊗ (b ⊗ y)) (λ a x b y. (a ⊗ b) ⊗ (x ⊗ y)) tt (omega′ ints) (omega^ n) (conjQ ints (omega′ ints)) (conjQ ints (omega^ n))
+    ∙ ring₄ omegas omegas-laws (λ a x b y. (a ⊗ x) ⊗ (b ⊗ y)) (λ a x b y. (a ⊗ b) ⊗ (x ⊗ y)) tt (omega′ ints) (omega^ n)
+    (conjQ ints (omega′ ints)) (conjQ ints (omega^ n))
     ∙ omegas-laws .one-mul (mulQ ints (omega^ n) (conjQ ints (omega^ n)))
     ∙ omega^-conj n

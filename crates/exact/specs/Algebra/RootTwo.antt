@@ -1,5 +1,5 @@
--- ℤ[root two], p + q·root two: a commutative ring, and a part of ℤ[omega]: the numbers that are their own conjugates. Root two can be cancelled in it.
--- Over any ring's operations, so that each law is one computed test. Assumes nothing.
+-- ℤ[root two], p + q·root two: a commutative ring, and a part of ℤ[omega]: the numbers that are their own conjugates. Root two can be
+-- cancelled in it. Over any ring's operations, so that each law is one computed test. Assumes nothing.
 use mathlib.Core.Path.{_≡_, refl, ap}
 use mathlib.Core.List.{List, [], _∷_}
 use native.Mathlib.Omega.{arith}
@@ -78,9 +78,14 @@ module _ (O : Ops) (L : Laws O) where
     mul-assoc = λ x y z. solveR O L (two x (two y (two z []))) (mulR exprs (mulR exprs R₀ R₁) R₂) (mulR exprs R₀ (mulR exprs R₁ R₂)) (tt, tt);
     mul-comm = λ x y. solveR O L (two x (two y [])) (mulR exprs R₀ R₁) (mulR exprs R₁ R₀) (tt, tt);
     one-mul = λ x. solveR O L (two x []) (mulR exprs (constR exprs (pos 1)) R₀) R₀ (tt, tt);
-    add-mul = λ x y z. solveR O L (two x (two y (two z []))) (mulR exprs (addR exprs R₀ R₁) R₂) (addR exprs (mulR exprs R₀ R₂) (mulR exprs R₁ R₂)) (tt, tt);
-    const-add = λ m n. rw (L .const-add m n) (solveR O L (O .const m ∷ O .const n ∷ []) (scalar (var 0 ⊕ var 1)) (addR exprs (scalar (var 0)) (scalar (var 1))) (tt, tt));
-    const-mul = λ m n. rw (L .const-mul m n) (solveR O L (O .const m ∷ O .const n ∷ []) (scalar (var 0 ⊗ var 1)) (mulR exprs (scalar (var 0)) (scalar (var 1))) (tt, tt));
+    add-mul = λ x y z.
+        solveR O L (two x (two y (two z []))) (mulR exprs (addR exprs R₀ R₁) R₂) (addR exprs (mulR exprs R₀ R₂) (mulR exprs R₁ R₂)) (tt, tt);
+    const-add = λ m n.
+        rw (L .const-add m n)
+        (solveR O L (O .const m ∷ O .const n ∷ []) (scalar (var 0 ⊕ var 1)) (addR exprs (scalar (var 0)) (scalar (var 1))) (tt, tt));
+    const-mul = λ m n.
+        rw (L .const-mul m n)
+        (solveR O L (O .const m ∷ O .const n ∷ []) (scalar (var 0 ⊗ var 1)) (mulR exprs (scalar (var 0)) (scalar (var 1))) (tt, tt));
   }
     where
       scalar : Expr → Root Expr

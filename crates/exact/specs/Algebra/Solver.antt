@@ -149,7 +149,8 @@ module _ (O : Ops) (L : Laws O) (ρ : ℕ → O .Car) where
   join-sound (num (negsuc n)) i q = refl
   join-sound (hor p j r) i q = refl
 
-  addH-sound : (f g : Poly → Poly) (p : Poly) (i : ℕ) (q : Poly) → ((r : Poly) → v (f r) ≡ v p + v r) → ((s : Poly) → v (g s) ≡ v q + v s) → (r : Poly) → v (addH f g p i q r) ≡ v p * ρ i + v q + v r
+  addH-sound : (f g : Poly → Poly) (p : Poly) (i : ℕ) (q : Poly) → ((r : Poly) → v (f r) ≡ v p + v r) → ((s : Poly) → v (g s) ≡ v q + v s)
+      → (r : Poly) → v (addH f g p i q r) ≡ v p * ρ i + v q + v r
   addH-sound f g p i q hf hg (num d) = ap (λ x. v p * ρ i + x) (hg (num d)) ∙ sym (add-assoc (v p * ρ i) (v q) (const d))
   addH-sound f g p i q hf hg (hor r j s) =
       pick-ind (λ z. v z ≡ v p * ρ i + v q + (v r * ρ j + v s)) i j
@@ -157,7 +158,11 @@ module _ (O : Ops) (L : Laws O) (ρ : ℕ → O .Car) where
       (λ _. join (f r) i (g s))
       (λ _. hor r j (addH f g p i q s))
       (ap (λ x. v p * ρ i + x) (hg (hor r j s)) ∙ sym (add-assoc (v p * ρ i) (v q) (v r * ρ j + v s)))
-      (λ e. join-sound (f r) i (g s) ∙ ap₂ (λ x y. x * ρ i + y) (hf r) (hg s) ∙ ap (λ x. x + (v q + v s)) (add-mul (v p) (v r) (ρ i)) ∙ exchange (v p * ρ i) (v r * ρ i) (v q) (v s) ∙ ap (λ n. v p * ρ i + v q + (v r * ρ n + v s)) e)
+      (λ e. join-sound (f r) i (g s)
+      ∙ ap₂ (λ x y. x * ρ i + y) (hf r) (hg s)
+      ∙ ap (λ x. x + (v q + v s)) (add-mul (v p) (v r) (ρ i))
+      ∙ exchange (v p * ρ i) (v r * ρ i) (v q) (v s)
+      ∙ ap (λ n. v p * ρ i + v q + (v r * ρ n + v s)) e)
       (ap (λ x. v r * ρ j + x) (addH-sound f g p i q hf hg s) ∙ Ring.add-left-comm O L (v r * ρ j) (v p * ρ i + v q) (v s))
     where
       exchange : (a b c d : Car) → a + b + (c + d) ≡ a + c + (b + d)
@@ -183,7 +188,9 @@ module _ (O : Ops) (L : Laws O) (ρ : ℕ → O .Car) where
       (λ _. hor (mulX i p) j (mulX i q))
       (Ring.add-zero O L ((v p * ρ j + v q) * ρ i))
       (λ e. Ring.add-zero O L ((v p * ρ j + v q) * ρ i))
-      (ap₂ (λ x y. x * ρ j + y) (mulX-sound i p) (mulX-sound i q) ∙ ap (λ x. x + v q * ρ i) (Ring.mul-right-comm O L (v p) (ρ i) (ρ j)) ∙ sym (add-mul (v p * ρ j) (v q) (ρ i)))
+      (ap₂ (λ x y. x * ρ j + y) (mulX-sound i p) (mulX-sound i q)
+      ∙ ap (λ x. x + v q * ρ i) (Ring.mul-right-comm O L (v p) (ρ i) (ρ j))
+      ∙ sym (add-mul (v p * ρ j) (v q) (ρ i)))
 
   mulP-sound : (p r : Poly) → v (mulP p r) ≡ v p * v r
   mulP-sound (num (pos zero)) r = sym (Ring.zero-mul O L (v r))
@@ -196,7 +203,10 @@ module _ (O : Ops) (L : Laws O) (ρ : ℕ → O .Car) where
 
   neg-sound : (r : Poly) → v (scale (negsuc 0) r) ≡ neg (v r)
   neg-sound r = scale-sound (negsuc 0) r ∙ Ring.neg-unique O L (v r) (const (negsuc 0) * v r)
-      (ap (λ x. x + const (negsuc 0) * v r) (sym (one-mul (v r))) ∙ sym (add-mul (const (pos 1)) (const (negsuc 0)) (v r)) ∙ ap (λ x. x * v r) (sym (L .const-add (pos 1) (negsuc 0))) ∙ Ring.zero-mul O L (v r))
+      (ap (λ x. x + const (negsuc 0) * v r) (sym (one-mul (v r)))
+      ∙ sym (add-mul (const (pos 1)) (const (negsuc 0)) (v r))
+      ∙ ap (λ x. x * v r) (sym (L .const-add (pos 1) (negsuc 0)))
+      ∙ Ring.zero-mul O L (v r))
 
   pub norm-sound : (e : Expr) → v (norm e) ≡ eval O ρ e
   norm-sound (var i) = Ring.add-zero O L (const (pos 1) * ρ i) ∙ one-mul (ρ i)
@@ -227,16 +237,22 @@ solve O L xs a b t = same-sound O L (at O xs) a b t
 
 -- the same with the variables as a λ's, `ring₂ O L (λ x y. x ⊗ y) (λ x y. y ⊗ x) tt : (a b : O .Car) → ..`
 module _ (O : Ops) (L : Laws O) where
-  pub ring₁ : (f g : Expr → Expr) → T (same (f (var 0)) (g (var 0))) → (a : O .Car) → eval O (at O (a ∷ [])) (f (var 0)) ≡ eval O (at O (a ∷ [])) (g (var 0))
+  pub ring₁ : (f g : Expr → Expr) → T (same (f (var 0)) (g (var 0))) → (a : O .Car)
+      → eval O (at O (a ∷ [])) (f (var 0)) ≡ eval O (at O (a ∷ [])) (g (var 0))
   ring₁ f g t a = solve O L (a ∷ []) (f (var 0)) (g (var 0)) t
 
-  pub ring₂ : (f g : Expr → Expr → Expr) → T (same (f (var 0) (var 1)) (g (var 0) (var 1))) → (a b : O .Car) → eval O (at O (a ∷ b ∷ [])) (f (var 0) (var 1)) ≡ eval O (at O (a ∷ b ∷ [])) (g (var 0) (var 1))
+  pub ring₂ : (f g : Expr → Expr → Expr) → T (same (f (var 0) (var 1)) (g (var 0) (var 1))) → (a b : O .Car)
+      → eval O (at O (a ∷ b ∷ [])) (f (var 0) (var 1)) ≡ eval O (at O (a ∷ b ∷ [])) (g (var 0) (var 1))
   ring₂ f g t a b = solve O L (a ∷ b ∷ []) (f (var 0) (var 1)) (g (var 0) (var 1)) t
 
-  pub ring₃ : (f g : Expr → Expr → Expr → Expr) → T (same (f (var 0) (var 1) (var 2)) (g (var 0) (var 1) (var 2))) → (a b c : O .Car) → eval O (at O (a ∷ b ∷ c ∷ [])) (f (var 0) (var 1) (var 2)) ≡ eval O (at O (a ∷ b ∷ c ∷ [])) (g (var 0) (var 1) (var 2))
+  pub ring₃ : (f g : Expr → Expr → Expr → Expr) → T (same (f (var 0) (var 1) (var 2)) (g (var 0) (var 1) (var 2))) → (a b c : O .Car)
+      → eval O (at O (a ∷ b ∷ c ∷ [])) (f (var 0) (var 1) (var 2)) ≡ eval O (at O (a ∷ b ∷ c ∷ [])) (g (var 0) (var 1) (var 2))
   ring₃ f g t a b c = solve O L (a ∷ b ∷ c ∷ []) (f (var 0) (var 1) (var 2)) (g (var 0) (var 1) (var 2)) t
 
-  pub ring₄ : (f g : Expr → Expr → Expr → Expr → Expr) → T (same (f (var 0) (var 1) (var 2) (var 3)) (g (var 0) (var 1) (var 2) (var 3))) → (a b c d : O .Car) → eval O (at O (a ∷ b ∷ c ∷ d ∷ [])) (f (var 0) (var 1) (var 2) (var 3)) ≡ eval O (at O (a ∷ b ∷ c ∷ d ∷ [])) (g (var 0) (var 1) (var 2) (var 3))
+  pub ring₄ : (f g : Expr → Expr → Expr → Expr → Expr) → T (same (f (var 0) (var 1) (var 2) (var 3)) (g (var 0) (var 1) (var 2) (var 3)))
+      → (a b c d : O .Car)
+      → eval O (at O (a ∷ b ∷ c ∷ d ∷ [])) (f (var 0) (var 1) (var 2) (var 3))
+      ≡ eval O (at O (a ∷ b ∷ c ∷ d ∷ [])) (g (var 0) (var 1) (var 2) (var 3))
   ring₄ f g t a b c d = solve O L (a ∷ b ∷ c ∷ d ∷ []) (f (var 0) (var 1) (var 2) (var 3)) (g (var 0) (var 1) (var 2) (var 3)) t
 
 -- ---- from equations that hold

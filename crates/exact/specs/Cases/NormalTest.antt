@@ -56,7 +56,11 @@ fitsTest-is : (t : Tail) → T (fitsTest t) → Fits t
 fitsTest-is t h =
     let p = and-yes (leb (t .xs) 1) (leb (t .ss) 3 && leb (t .ws) 7) h in
     let q = and-yes (leb (t .ss) 3) (leb (t .ws) 7) (p .1) in
-    record { xs-few = omega (arith, leb→le (t .xs) 1 (p .0)); ss-few = omega (arith, leb→le (t .ss) 3 (q .0)); ws-few = omega (arith, leb→le (t .ws) 7 (q .1)) }
+    record {
+      xs-few = omega (arith, leb→le (t .xs) 1 (p .0));
+      ss-few = omega (arith, leb→le (t .ss) 3 (q .0));
+      ws-few = omega (arith, leb→le (t .ws) 7 (q .1));
+    }
 
 abbrev pub normalTest : List Letter → Bool
 normalTest u = fitsTest (shapeOf u .tail) && eqWord (spell (shapeOf u)) u

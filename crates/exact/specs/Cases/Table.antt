@@ -92,4 +92,6 @@ products =
 
 pub all-products : Each SameRow products
 unfolding products
-all-products = each (λ r. sameTest (word (r .left)) (word (r .right))) SameRow (λ r t. record { same = same-by (word (r .left)) (word (r .right)) t }) products tt
+all-products =
+    each (λ r. sameTest (word (r .left)) (word (r .right))) SameRow
+    (λ r t. record { same = same-by (word (r .left)) (word (r .right)) t }) products tt

@@ -1,5 +1,5 @@
--- Least exponents: of a triple it is k where k is 0 or root two does not divide both z and w. Every triple has a reduced one with its matrix, every word
--- a least exponent, and two reduced unitary triples with the same matrix are equal, n modulo 8. Assumes nothing.
+-- Least exponents: of a triple it is k where k is 0 or root two does not divide both z and w. Every triple has a reduced one with its
+-- matrix, every word a least exponent, and two reduced unitary triples with the same matrix are equal, n modulo 8. Assumes nothing.
 use mathlib.Core.Path.{_≡_, refl, sym, _∙_, ap, ap₂}
 use mathlib.Core.Bool.{Bool, true, false, not, _&&_}
 use mathlib.Core.List.{List, [], _∷_}
@@ -23,7 +23,8 @@ use Rattle.exact.specs.Matrices.Triples.{tripleOf, word-triple}
 
 -- ---- of any matrix
 pub least-unique : {x : Matrix} {j k : ℕ} → Least x j → Least x k → j ≡ k
-least-unique {x} {j} {k} g h = omega (arith, g .least (record { m = h .written; e = k }) (h .same), h .least (record { m = g .written; e = j }) (g .same))
+least-unique {x} {j} {k} g h =
+    omega (arith, g .least (record { m = h .written; e = k }) (h .same), h .least (record { m = g .written; e = j }) (g .same))
 
 pub least-same : {x y : Matrix} {k : ℕ} → Same x y → Least x k → Least y k
 least-same h l = record { written = l .written; same = Same-trans (Same-sym h) (l .same); least = λ z k. l .least z (Same-trans h k) }
@@ -50,7 +51,11 @@ multiples t y h l = yes-and (divides (t .z)) (divides (t .w)) (at (λ m. m .p) (
     split = omega arith
 
     e : entries t .m ≡ lifted (suc j) (y .m)
-    e = lifted-cancel (y .e) (entries t .m) (lifted (suc j) (y .m)) (h .same ∙ ap (λ c. scaleM omegas c (y .m)) (ap root2^ split ∙ root2^-add (y .e) (suc j)) ∙ scale-scale omegas omegas-laws (root2^ (y .e)) (root2^ (suc j)) (y .m))
+    e =
+        lifted-cancel (y .e) (entries t .m) (lifted (suc j) (y .m))
+        (h .same
+        ∙ ap (λ c. scaleM omegas c (y .m)) (ap root2^ split ∙ root2^-add (y .e) (suc j))
+        ∙ scale-scale omegas omegas-laws (root2^ (y .e)) (root2^ (suc j)) (y .m))
 
     at : (f : Mat Ω → Ω) → f (entries t .m) ≡ mulQ ints (root2^ (suc j)) (f (y .m)) → T (divides (f (entries t .m)))
     at f g = times-divides (f (entries t .m)) (mulQ ints (root2^ j) (f (y .m))) (g ∙ omegas-laws .mul-assoc (root2 ints) (root2^ j) (f (y .m)))
@@ -77,7 +82,9 @@ lowered-same k t e d =
           ap (λ j. lifted j (entries (lowered k t) .m)) e
           ∙ scale-scale omegas omegas-laws (root2 ints) (root2^ k) (entries (lowered k t) .m)
           ∙ scale-swap omegas omegas-laws (root2 ints) (root2^ k) (entries (lowered k t) .m)
-          ∙ ap (lifted k) (mat-path z-is (column-q ∙ ap (λ x. negQ ints (mulQ ints (conjQ ints x) u)) w-is) w-is (column-s ∙ ap (λ x. mulQ ints (conjQ ints x) u) z-is));
+          ∙ ap (lifted k)
+          (mat-path z-is (column-q ∙ ap (λ x. negQ ints (mulQ ints (conjQ ints x) u)) w-is) w-is
+          (column-s ∙ ap (λ x. mulQ ints (conjQ ints x) u) z-is));
     }
   where
     u : Ω
@@ -93,9 +100,13 @@ lowered-same k t e d =
     w-is = over-times (t .w) (each .1)
 
     column-s : mulQ ints (root2 ints) (mulQ ints (conjQ ints (over (t .z))) u) ≡ mulQ ints (conjQ ints (mulQ ints (root2 ints) (over (t .z)))) u
-    column-s = sym (omegas-laws .mul-assoc (root2 ints) (conjQ ints (over (t .z))) u) ∙ ap (λ x. mulQ ints x u) (sym (conj-mul ints ints-laws (root2 ints) (over (t .z))))
+    column-s =
+        sym (omegas-laws .mul-assoc (root2 ints) (conjQ ints (over (t .z))) u)
+        ∙ ap (λ x. mulQ ints x u) (sym (conj-mul ints ints-laws (root2 ints) (over (t .z))))
 
-    column-q : mulQ ints (root2 ints) (negQ ints (mulQ ints (conjQ ints (over (t .w))) u)) ≡ negQ ints (mulQ ints (conjQ ints (mulQ ints (root2 ints) (over (t .w)))) u)
+    column-q :
+        mulQ ints (root2 ints) (negQ ints (mulQ ints (conjQ ints (over (t .w))) u))
+        ≡ negQ ints (mulQ ints (conjQ ints (mulQ ints (root2 ints) (over (t .w)))) u)
     column-q =
         ring₃ omegas omegas-laws (λ r x u. r ⊗ ⊖ (x ⊗ u)) (λ r x u. ⊖ (r ⊗ x ⊗ u)) tt (root2 ints) (conjQ ints (over (t .w))) u
         ∙ ap (λ x. negQ ints (mulQ ints x u)) (sym (conj-mul ints ints-laws (root2 ints) (over (t .w))))
@@ -128,7 +139,11 @@ abbrev pub reduce : Triple → Triple
 reduce t = lower (t .k) t
 
 pub modEight-same : (t : Triple) → entries (modEight t) ≡ entries t
-modEight-same t = ap (λ u. record { m = record { p = t .z; q = negQ ints (mulQ ints (conjQ ints (t .w)) u); r = t .w; s = mulQ ints (conjQ ints (t .z)) u }; e = t .k }) (sym (omega^-mod (t .n)))
+modEight-same t =
+    ap (λ u. record {
+      m = record { p = t .z; q = negQ ints (mulQ ints (conjQ ints (t .w)) u); r = t .w; s = mulQ ints (conjQ ints (t .z)) u };
+      e = t .k;
+    }) (sym (omega^-mod (t .n)))
 
 here : (t : Triple) → T (reducedTest t) → Reduces t (modEight t)
 here t test = record { same = Same-of (modEight-same t); reduced = test-reduced (modEight t) test; n-small = omega arith }
@@ -137,7 +152,8 @@ lower-reduces : (k : ℕ) (t : Triple) → t .k ≡ k → Reduces t (lower k t)
 lower-reduces zero t e = here t (rw e tt)
 lower-reduces (suc k) t e = go (both t) refl (lower-reduces k (lowered k t) refl)
   where
-    go : (b : Bool) → both t ≡ b → Reduces (lowered k t) (lower k (lowered k t)) → Reduces t (elim b [ true ↦ lower k (lowered k t) | false ↦ modEight t ])
+    go : (b : Bool) → both t ≡ b → Reduces (lowered k t) (lower k (lowered k t))
+        → Reduces t (elim b [ true ↦ lower k (lowered k t) | false ↦ modEight t ])
     go true f r = record { same = Same-trans (r .same) (lowered-same k t e (rw f tt)); reduced = r .reduced; n-small = r .n-small }
     go false f r = here t (rw (e, f) tt)
 
@@ -172,7 +188,9 @@ reduced-unique {s} {t} u rs rt h =
     e = Same-level h k-is
 
     -- the second column times the first is 2 to the k, times omega^n
-    column : (r : Triple) → addQ ints (mulQ ints (entries r .m .p) (entries r .m .s)) (negQ ints (mulQ ints (entries r .m .r) (entries r .m .q))) ≡ mulQ ints (addQ ints (norm (r .z)) (norm (r .w))) (omega^ (r .n))
+    column : (r : Triple)
+        → addQ ints (mulQ ints (entries r .m .p) (entries r .m .s)) (negQ ints (mulQ ints (entries r .m .r) (entries r .m .q)))
+        ≡ mulQ ints (addQ ints (norm (r .z)) (norm (r .w))) (omega^ (r .n))
     column r =
         solve omegas omegas-laws (r .z ∷ conjQ ints (r .z) ∷ r .w ∷ conjQ ints (r .w) ∷ omega^ (r .n) ∷ [])
         (var 0 ⊗ (var 1 ⊗ var 4) ⊕ ⊖ (var 2 ⊗ ⊖ (var 3 ⊗ var 4))) ((var 0 ⊗ var 1 ⊕ var 2 ⊗ var 3) ⊗ var 4) tt

@@ -46,7 +46,11 @@ Same-trans {x} {y} {z} h k =
     record {
       same =
           lifted-cancel (y .e) (lifted (z .e) (x .m)) (lifted (x .e) (z .m))
-          (scale-swap omegas omegas-laws b c (x .m) ∙ ap (scaleM omegas c) (h .same) ∙ scale-swap omegas omegas-laws c a (y .m) ∙ ap (scaleM omegas a) (k .same) ∙ scale-swap omegas omegas-laws a b (z .m));
+          (scale-swap omegas omegas-laws b c (x .m)
+          ∙ ap (scaleM omegas c) (h .same)
+          ∙ scale-swap omegas omegas-laws c a (y .m)
+          ∙ ap (scaleM omegas a) (k .same)
+          ∙ scale-swap omegas omegas-laws a b (z .m));
     }
   where
     a : Ω

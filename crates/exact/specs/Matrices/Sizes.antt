@@ -61,13 +61,23 @@ module _ {t : Triple} (u : Unitary t) (j : ℕ) (h : t .k ≤ j + j) where
   unfolding squaresN
   z-sized =
       let l = below in
-      record { a-small = each (t .z .a) (omega arith); b-small = each (t .z .b) (omega arith); c-small = each (t .z .c) (omega arith); d-small = each (t .z .d) (omega arith) }
+      record {
+        a-small = each (t .z .a) (omega arith);
+        b-small = each (t .z .b) (omega arith);
+        c-small = each (t .z .c) (omega arith);
+        d-small = each (t .z .d) (omega arith);
+      }
 
   pub w-sized : Sized (2 ^ j) (t .w)
   unfolding squaresN
   w-sized =
       let l = below in
-      record { a-small = each (t .w .a) (omega arith); b-small = each (t .w .b) (omega arith); c-small = each (t .w .c) (omega arith); d-small = each (t .w .d) (omega arith) }
+      record {
+        a-small = each (t .w .a) (omega arith);
+        b-small = each (t .w .b) (omega arith);
+        c-small = each (t .w .c) (omega arith);
+        d-small = each (t .w .d) (omega arith);
+      }
 
 -- ---- division by root two, and sums
 half-le : (x y : ℤ) (n : ℕ) → natAbs x ≤ n → natAbs y ≤ n → (natAbs (half (x +ℤ y)) ≤ n) × (natAbs (half (x -ℤ y)) ≤ n)
@@ -102,7 +112,9 @@ neg-sized n x s =
     }
 
 pub omega-sized : (n : ℕ) (x : Ω) → Sized n x → Sized n (mulQ ints (omega′ ints) x)
-omega-sized n x s = rw (times-omega x) (record { a-small = s .b-small; b-small = s .c-small; c-small = s .d-small; d-small = rw (natAbs-neg (x .a)) (s .a-small) })
+omega-sized n x s =
+    rw (times-omega x)
+    (record { a-small = s .b-small; b-small = s .c-small; c-small = s .d-small; d-small = rw (natAbs-neg (x .a)) (s .a-small) })
 
 -- ---- the two sums
 module _ (x : Ω) (s : Sized (2 ^ 30) x) where

@@ -12,10 +12,13 @@ module _ (O : Ops) where
   abbrev pub starM : Mat (Quad (O .Car)) → Mat (Quad (O .Car))
   starM x = record { p = conjQ O (x .p); q = conjQ O (x .r); r = conjQ O (x .q); s = conjQ O (x .s) }
 
-star-entry : (a b c d : Ω) → conjQ ints (omegas .add (mulQ ints a b) (mulQ ints c d)) ≡ omegas .add (mulQ ints (conjQ ints b) (conjQ ints a)) (mulQ ints (conjQ ints d) (conjQ ints c))
+star-entry : (a b c d : Ω)
+    → conjQ ints (omegas .add (mulQ ints a b) (mulQ ints c d))
+    ≡ omegas .add (mulQ ints (conjQ ints b) (conjQ ints a)) (mulQ ints (conjQ ints d) (conjQ ints c))
 star-entry a b c d =
     conj-add ints ints-laws (mulQ ints a b) (mulQ ints c d)
-    ∙ ap₂ (omegas .add) (conj-mul ints ints-laws a b ∙ omegas-laws .mul-comm (conjQ ints a) (conjQ ints b)) (conj-mul ints ints-laws c d ∙ omegas-laws .mul-comm (conjQ ints c) (conjQ ints d))
+    ∙ ap₂ (omegas .add) (conj-mul ints ints-laws a b ∙ omegas-laws .mul-comm (conjQ ints a) (conjQ ints b))
+    (conj-mul ints ints-laws c d ∙ omegas-laws .mul-comm (conjQ ints c) (conjQ ints d))
 
 pub star-mul : (x y : Mat Ω) → starM ints (mulM omegas x y) ≡ mulM omegas (starM ints y) (starM ints x)
 star-mul x y =
@@ -56,7 +59,8 @@ mul-isometry {x} {y} h k =
           ∙ mulM-scale omegas omegas-laws (root2^ (x .e)) (starM ints (y .m)) (lifted (x .e) (y .m))
           ∙ ap (lifted (x .e)) (mulM-scale omegas omegas-laws (root2^ (x .e)) (starM ints (y .m)) (y .m) ∙ ap (lifted (x .e)) (k .inverted))
           ∙ scale-twice omegas omegas-laws (root2^ (x .e)) (root2^ (y .e)) (unitM omegas)
-          ∙ sym (ap (λ c. scaleM omegas c (scaleM omegas c (unitM omegas))) (root2^-add (x .e) (y .e) ∙ omegas-laws .mul-comm (root2^ (x .e)) (root2^ (y .e))));
+          ∙ sym (ap (λ c. scaleM omegas c (scaleM omegas c (unitM omegas)))
+          (root2^-add (x .e) (y .e) ∙ omegas-laws .mul-comm (root2^ (x .e)) (root2^ (y .e))));
     }
 
 pub Same-isometry : {x y : Matrix} → Same x y → Isometry x → Isometry y
@@ -64,7 +68,8 @@ Same-isometry {x} {y} h i =
     record {
       inverted =
           lifted-cancel (x .e) (mulM omegas (starM ints (y .m)) (y .m)) (lifted (y .e) (lifted (y .e) (unitM omegas)))
-          (lifted-cancel (x .e) (lifted (x .e) (mulM omegas (starM ints (y .m)) (y .m))) (lifted (x .e) (lifted (y .e) (lifted (y .e) (unitM omegas))))
+          (lifted-cancel (x .e) (lifted (x .e) (mulM omegas (starM ints (y .m)) (y .m)))
+          (lifted (x .e) (lifted (y .e) (lifted (y .e) (unitM omegas))))
           (sym (squared (x .e) (y .m))
           ∙ ap (λ m. mulM omegas (starM ints m) m) (sym (h .same))
           ∙ squared (y .e) (x .m)
@@ -96,7 +101,9 @@ strike {x} {y} {z} i h =
     Q : Mat Ω
     Q = lifted (y .e) (z .m)
 
-    side : (y z : Matrix) → mulM omegas (starM ints (x .m)) (lifted (x .e + z .e) (mulM omegas (x .m) (y .m))) ≡ lifted (x .e) (lifted (x .e) (lifted (x .e) (lifted (z .e) (y .m))))
+    side : (y z : Matrix)
+        → mulM omegas (starM ints (x .m)) (lifted (x .e + z .e) (mulM omegas (x .m) (y .m)))
+        ≡ lifted (x .e) (lifted (x .e) (lifted (x .e) (lifted (z .e) (y .m))))
     side y z =
         ap (λ c. mulM omegas (starM ints (x .m)) (scaleM omegas c (mulM omegas (x .m) (y .m)))) (root2^-add (x .e) (z .e))
         ∙ mulM-scale omegas omegas-laws (mulQ ints (root2^ (x .e)) (root2^ (z .e))) (starM ints (x .m)) (mulM omegas (x .m) (y .m))
@@ -115,7 +122,9 @@ sand-mul m n s =
     ∙ ap (λ y. mulM omegas y (starM ints m)) (mulM-assoc omegas omegas-laws m (mulM omegas n s) (starM ints n))
 
 pub sand-scale : (c : Ω) (m s : Mat Ω) → sand m (scaleM omegas c s) ≡ scaleM omegas c (sand m s)
-sand-scale c m s = ap (λ y. mulM omegas y (starM ints m)) (mulM-scale omegas omegas-laws c m s) ∙ scale-mulM omegas omegas-laws c (mulM omegas m s) (starM ints m)
+sand-scale c m s =
+    ap (λ y. mulM omegas y (starM ints m)) (mulM-scale omegas omegas-laws c m s)
+    ∙ scale-mulM omegas omegas-laws c (mulM omegas m s) (starM ints m)
 
 pub lifted-sand : (n : ℕ) (m s : Mat Ω) → sand (lifted n m) s ≡ lifted n (lifted n (sand m s))
 lifted-sand n m s =

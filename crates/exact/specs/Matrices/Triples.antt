@@ -43,11 +43,20 @@ shifted j t z w = ap (rows ints z w) (omega^-add (t .n) j)
 
 acts-m : (l : Letter) (t : Triple) → entries (act l t) .m ≡ mulM omegas (letterM ints l) (entries t .m)
 acts-m I t = solveMQ ints ints-laws (vars t) (rows exprs X₀ X₁ X₂) (product I) passed
-acts-m H t = shifted 4 t (act H t .z) (act H t .w) ∙ solveMQ ints ints-laws (vars t) (rows exprs (addQ exprs X₀ X₁) (addQ exprs X₀ (negQ exprs X₁)) (turned 4)) (product H) passed
-acts-m S t = shifted 2 t (act S t .z) (act S t .w) ∙ solveMQ ints ints-laws (vars t) (rows exprs X₀ (mulQ exprs (power (quads exprs) (omega′ exprs) 2) X₁) (turned 2)) (product S) passed
+acts-m H t =
+    shifted 4 t (act H t .z) (act H t .w)
+    ∙ solveMQ ints ints-laws (vars t) (rows exprs (addQ exprs X₀ X₁) (addQ exprs X₀ (negQ exprs X₁)) (turned 4)) (product H) passed
+acts-m S t =
+    shifted 2 t (act S t .z) (act S t .w)
+    ∙ solveMQ ints ints-laws (vars t) (rows exprs X₀ (mulQ exprs (power (quads exprs) (omega′ exprs) 2) X₁) (turned 2)) (product S) passed
 acts-m X t = shifted 4 t (act X t .z) (act X t .w) ∙ solveMQ ints ints-laws (vars t) (rows exprs X₁ X₀ (turned 4)) (product X) passed
-acts-m W t = shifted 2 t (act W t .z) (act W t .w) ∙ solveMQ ints ints-laws (vars t) (rows exprs (mulQ exprs (omega′ exprs) X₀) (mulQ exprs (omega′ exprs) X₁) (turned 2)) (product W) passed
-acts-m T′ t = shifted 1 t (act T′ t .z) (act T′ t .w) ∙ solveMQ ints ints-laws (vars t) (rows exprs X₀ (mulQ exprs (omega′ exprs) X₁) (turned 1)) (product T′) passed
+acts-m W t =
+    shifted 2 t (act W t .z) (act W t .w)
+    ∙ solveMQ ints ints-laws (vars t) (rows exprs (mulQ exprs (omega′ exprs) X₀) (mulQ exprs (omega′ exprs) X₁) (turned 2))
+    (product W) passed
+acts-m T′ t =
+    shifted 1 t (act T′ t .z) (act T′ t .w)
+    ∙ solveMQ ints ints-laws (vars t) (rows exprs X₀ (mulQ exprs (omega′ exprs) X₁) (turned 1)) (product T′) passed
 
 acts-e : (l : Letter) (t : Triple) → entries (act l t) .e ≡ (letter l · entries t) .e
 acts-e I t = omega arith
@@ -61,11 +70,20 @@ pub acts : (l : Letter) (t : Triple) → entries (act l t) ≡ letter l · entri
 acts l t = matrix-path (acts-m l t) (acts-e l t)
 
 -- ---- the conjugate transposed
-pub star-entries : (t : Triple) → starM ints (entries t .m) ≡ record { p = conjQ ints (t .z); q = conjQ ints (t .w); r = negQ ints (mulQ ints (t .w) (conjQ ints (omega^ (t .n)))); s = mulQ ints (t .z) (conjQ ints (omega^ (t .n))) }
+pub star-entries : (t : Triple)
+    → starM ints (entries t .m)
+    ≡ record {
+      p = conjQ ints (t .z);
+      q = conjQ ints (t .w);
+      r = negQ ints (mulQ ints (t .w) (conjQ ints (omega^ (t .n))));
+      s = mulQ ints (t .z) (conjQ ints (omega^ (t .n)));
+    }
 star-entries t =
     mat-path refl refl
-    (conj-eval (conjQ ints (t .w) ∷ omega^ (t .n) ∷ []) (⊖ (var 0 ⊗ var 1)) ∙ ap (λ x. negQ ints (mulQ ints x (conjQ ints (omega^ (t .n))))) (conj-conj ints ints-laws (t .w)))
-    (conj-eval (conjQ ints (t .z) ∷ omega^ (t .n) ∷ []) (var 0 ⊗ var 1) ∙ ap (λ x. mulQ ints x (conjQ ints (omega^ (t .n)))) (conj-conj ints ints-laws (t .z)))
+    (conj-eval (conjQ ints (t .w) ∷ omega^ (t .n) ∷ []) (⊖ (var 0 ⊗ var 1))
+    ∙ ap (λ x. negQ ints (mulQ ints x (conjQ ints (omega^ (t .n))))) (conj-conj ints ints-laws (t .w)))
+    (conj-eval (conjQ ints (t .z) ∷ omega^ (t .n) ∷ []) (var 0 ⊗ var 1)
+    ∙ ap (λ x. mulQ ints x (conjQ ints (omega^ (t .n)))) (conj-conj ints ints-laws (t .z)))
 
 -- ---- unitary
 -- the four entries of M*·M, for numbers z and w, their conjugates, and u with its inverse v
@@ -76,8 +94,10 @@ unitary-isometry {t} h =
           ap (λ s. mulM omegas s (entries t .m)) (star-entries t)
           ∙ mat-path
           (ring₄ omegas omegas-laws (λ z z* w w*. z* ⊗ z ⊕ w* ⊗ w) (λ z z* w w*. z ⊗ z* ⊕ w ⊗ w*) tt z z* w w* ∙ size ∙ sym (one-at (root2^ (t .k))))
-          (solve omegas omegas-laws (z* ∷ w* ∷ u ∷ []) (var 0 ⊗ ⊖ (var 1 ⊗ var 2) ⊕ var 1 ⊗ (var 0 ⊗ var 2)) (con (pos 0)) tt ∙ sym (nil-at (root2^ (t .k))))
-          (solve omegas omegas-laws (z ∷ w ∷ v ∷ []) (⊖ (var 1 ⊗ var 2) ⊗ var 0 ⊕ var 0 ⊗ var 2 ⊗ var 1) (con (pos 0)) tt ∙ sym (nil-at (root2^ (t .k))))
+          (solve omegas omegas-laws (z* ∷ w* ∷ u ∷ []) (var 0 ⊗ ⊖ (var 1 ⊗ var 2) ⊕ var 1 ⊗ (var 0 ⊗ var 2)) (con (pos 0)) tt
+          ∙ sym (nil-at (root2^ (t .k))))
+          (solve omegas omegas-laws (z ∷ w ∷ v ∷ []) (⊖ (var 1 ⊗ var 2) ⊗ var 0 ⊕ var 0 ⊗ var 2 ⊗ var 1) (con (pos 0)) tt
+          ∙ sym (nil-at (root2^ (t .k))))
           (solve-from omegas omegas-laws (z ∷ z* ∷ w ∷ w* ∷ u ∷ v ∷ [])
           (record { c = var 0 ⊗ var 1 ⊕ var 2 ⊗ var 3; l = var 4 ⊗ var 5; r = con (pos 1) } ∷ [])
           (⊖ (var 2 ⊗ var 5) ⊗ ⊖ (var 3 ⊗ var 4) ⊕ var 0 ⊗ var 5 ⊗ (var 1 ⊗ var 4)) (var 0 ⊗ var 1 ⊕ var 2 ⊗ var 3) tt (omega^-conj (t .n), tt)
@@ -156,13 +176,20 @@ mulT-is s t =
     matrix-path
     (mat-path
     (solve omegas omegas-laws xs (var 0 ⊗ var 6 ⊕ ⊖ (var 3 ⊗ var 4 ⊗ var 8)) (var 0 ⊗ var 6 ⊕ ⊖ (var 3 ⊗ var 4) ⊗ var 8) tt)
-    (ap₂ (λ x y. negQ ints (mulQ ints x y)) (conj-eval xs (var 2 ⊗ var 6 ⊕ var 1 ⊗ var 4 ⊗ var 8) ∙ ap (λ a. addQ ints (mulQ ints w* z₂*) (mulQ ints (mulQ ints a v) w₂*)) (conj-conj ints ints-laws (s .z))) (omega^-add (s .n) (t .n))
+    (ap₂ (λ x y. negQ ints (mulQ ints x y))
+    (conj-eval xs (var 2 ⊗ var 6 ⊕ var 1 ⊗ var 4 ⊗ var 8)
+    ∙ ap (λ a. addQ ints (mulQ ints w* z₂*) (mulQ ints (mulQ ints a v) w₂*)) (conj-conj ints ints-laws (s .z))) (omega^-add (s .n) (t .n))
     ∙ solve-from omegas omegas-laws xs (record { c = ⊖ (var 0 ⊗ var 9 ⊗ var 10); l = var 4 ⊗ var 5; r = con (pos 1) } ∷ [])
-    (⊖ ((var 3 ⊗ var 7 ⊕ var 0 ⊗ var 5 ⊗ var 9) ⊗ (var 4 ⊗ var 10))) (var 0 ⊗ ⊖ (var 9 ⊗ var 10) ⊕ ⊖ (var 3 ⊗ var 4) ⊗ (var 7 ⊗ var 10)) tt (omega^-conj (s .n), tt))
+    (⊖ ((var 3 ⊗ var 7 ⊕ var 0 ⊗ var 5 ⊗ var 9) ⊗ (var 4 ⊗ var 10))) (var 0 ⊗ ⊖ (var 9 ⊗ var 10) ⊕ ⊖ (var 3 ⊗ var 4) ⊗ (var 7 ⊗ var 10)) tt
+    (omega^-conj (s .n), tt))
     (solve omegas omegas-laws xs (var 2 ⊗ var 6 ⊕ var 1 ⊗ var 4 ⊗ var 8) (var 2 ⊗ var 6 ⊕ var 1 ⊗ var 4 ⊗ var 8) tt)
-    (ap₂ (mulQ ints) (conj-eval xs (var 0 ⊗ var 6 ⊕ ⊖ (var 3 ⊗ var 4 ⊗ var 8)) ∙ ap (λ a. addQ ints (mulQ ints z* z₂*) (negQ ints (mulQ ints (mulQ ints a v) w₂*))) (conj-conj ints ints-laws (s .w))) (omega^-add (s .n) (t .n))
+    (ap₂ (mulQ ints)
+    (conj-eval xs (var 0 ⊗ var 6 ⊕ ⊖ (var 3 ⊗ var 4 ⊗ var 8))
+    ∙ ap (λ a. addQ ints (mulQ ints z* z₂*) (negQ ints (mulQ ints (mulQ ints a v) w₂*))) (conj-conj ints ints-laws (s .w)))
+    (omega^-add (s .n) (t .n))
     ∙ solve-from omegas omegas-laws xs (record { c = ⊖ (var 2 ⊗ var 9 ⊗ var 10); l = var 4 ⊗ var 5; r = con (pos 1) } ∷ [])
-    ((var 1 ⊗ var 7 ⊕ ⊖ (var 2 ⊗ var 5 ⊗ var 9)) ⊗ (var 4 ⊗ var 10)) (var 2 ⊗ ⊖ (var 9 ⊗ var 10) ⊕ var 1 ⊗ var 4 ⊗ (var 7 ⊗ var 10)) tt (omega^-conj (s .n), tt)))
+    ((var 1 ⊗ var 7 ⊕ ⊖ (var 2 ⊗ var 5 ⊗ var 9)) ⊗ (var 4 ⊗ var 10)) (var 2 ⊗ ⊖ (var 9 ⊗ var 10) ⊕ var 1 ⊗ var 4 ⊗ (var 7 ⊗ var 10)) tt
+    (omega^-conj (s .n), tt)))
     refl
   where
     z* : Ω

@@ -78,7 +78,9 @@ no-less u v h s l = s .odd-there (sym (par-turn v (s .at)) ∙ ap par (sym e) �
     n = omega arith
 
     e : lift (suc k) (turn u (s .at)) ≡ turn v (s .at)
-    e = lift-cancel (tees u) (lift (suc k) (turn u (s .at))) (turn v (s .at)) (sym (lift-add (tees u) (suc k) (turn u (s .at))) ∙ ap (λ j. lift j (turn u (s .at))) (sym n) ∙ same-turn u v h (s .at))
+    e =
+        lift-cancel (tees u) (lift (suc k) (turn u (s .at))) (turn v (s .at))
+        (sym (lift-add (tees u) (suc k) (turn u (s .at))) ∙ ap (λ j. lift j (turn u (s .at))) (sym n) ∙ same-turn u v h (s .at))
 
 -- no word with the same matrix has fewer T letters
 pub fewest : (u v : List Letter) → Same (word u) (word v) → Seen v → tees v ≤ tees u

@@ -32,7 +32,11 @@ axis v = ofRoot ints (v .z)
 module _ (z w u x c : Ω) where
   -- z*²·u·x - w²·(u·x)* + 2·c·z*·w, the new x + i·y
   abbrev planeOf : Ω
-  planeOf = addQ ints (addQ ints (mulQ ints (mulQ ints (conjQ ints z) (conjQ ints z)) (mulQ ints u x)) (negQ ints (mulQ ints (mulQ ints w w) (conjQ ints (mulQ ints u x))))) (mulQ ints (constQ ints (pos 2)) (mulQ ints c (mulQ ints (conjQ ints z) w)))
+  planeOf =
+      addQ ints
+      (addQ ints (mulQ ints (mulQ ints (conjQ ints z) (conjQ ints z)) (mulQ ints u x))
+      (negQ ints (mulQ ints (mulQ ints w w) (conjQ ints (mulQ ints u x)))))
+      (mulQ ints (constQ ints (pos 2)) (mulQ ints c (mulQ ints (conjQ ints z) w)))
 
   -- z·w·(u·x)*
   abbrev mixed : Ω
@@ -40,7 +44,9 @@ module _ (z w u x c : Ω) where
 
   -- c·(z·z* - w·w*) - twice the real part of that, the new z
   abbrev axisOf : Ω
-  axisOf = addQ ints (mulQ ints c (addQ ints (mulQ ints z (conjQ ints z)) (negQ ints (mulQ ints w (conjQ ints w))))) (negQ ints (addQ ints mixed (conjQ ints mixed)))
+  axisOf =
+      addQ ints (mulQ ints c (addQ ints (mulQ ints z (conjQ ints z)) (negQ ints (mulQ ints w (conjQ ints w)))))
+      (negQ ints (addQ ints mixed (conjQ ints mixed)))
 
 -- root two times the real and the imaginary part
 abbrev realOf : Ω → Root ℤ
@@ -84,14 +90,18 @@ module _ (z w u x c : Ω) (one : mulQ ints u (conjQ ints u) ≡ constQ ints (pos
 
   plane-is : planeOf z w u x c ≡ value planeE
   plane-is =
-      ap (λ y. addQ ints (addQ ints (mulQ ints (mulQ ints (conjQ ints z) (conjQ ints z)) (mulQ ints u x)) (negQ ints (mulQ ints (mulQ ints w w) y))) (mulQ ints (constQ ints (pos 2)) (mulQ ints c (mulQ ints (conjQ ints z) w))))
+      ap (λ y. addQ ints
+      (addQ ints (mulQ ints (mulQ ints (conjQ ints z) (conjQ ints z)) (mulQ ints u x)) (negQ ints (mulQ ints (mulQ ints w w) y)))
+      (mulQ ints (constQ ints (pos 2)) (mulQ ints c (mulQ ints (conjQ ints z) w))))
       (conj-mul ints ints-laws u x)
 
   axis-is : axisOf z w u x c ≡ value axisE
   axis-is =
-      ap₂ (λ y y*. addQ ints (mulQ ints c (addQ ints (mulQ ints z (conjQ ints z)) (negQ ints (mulQ ints w (conjQ ints w))))) (negQ ints (addQ ints y y*)))
+      ap₂ (λ y y*. addQ ints (mulQ ints c (addQ ints (mulQ ints z (conjQ ints z)) (negQ ints (mulQ ints w (conjQ ints w)))))
+      (negQ ints (addQ ints y y*)))
       (ap (mulQ ints (mulQ ints z w)) (conj-mul ints ints-laws u x))
-      (conj-mul ints ints-laws (mulQ ints z w) (conjQ ints (mulQ ints u x)) ∙ ap₂ (mulQ ints) (conj-mul ints ints-laws z w) (conj-conj ints ints-laws (mulQ ints u x)))
+      (conj-mul ints ints-laws (mulQ ints z w) (conjQ ints (mulQ ints u x))
+      ∙ ap₂ (mulQ ints) (conj-mul ints ints-laws z w) (conj-conj ints ints-laws (mulQ ints u x)))
 
   -- conjugated, the atoms change places in pairs, and c stays
   abbrev flipped : List Ω
@@ -100,7 +110,12 @@ module _ (z w u x c : Ω) (one : mulQ ints u (conjQ ints u) ≡ constQ ints (pos
   conj-value : (e : Expr) → conjQ ints (value e) ≡ eval omegas (at omegas flipped) e
   conj-value e =
       conj-eval atoms e
-      ∙ ap (λ xs. eval omegas (at omegas xs) e) (λ i. conjQ ints z ∷ conj-conj ints ints-laws z i ∷ conjQ ints w ∷ conj-conj ints ints-laws w i ∷ conjQ ints u ∷ conj-conj ints ints-laws u i ∷ conjQ ints x ∷ conj-conj ints ints-laws x i ∷ real i ∷ [])
+      ∙ ap (λ xs. eval omegas (at omegas xs) e)
+      (λ i. conjQ ints z ∷ conj-conj ints ints-laws z i ∷
+      conjQ ints w ∷ conj-conj ints ints-laws w i ∷
+      conjQ ints u ∷ conj-conj ints ints-laws u i ∷
+      conjQ ints x ∷ conj-conj ints ints-laws x i ∷
+      real i ∷ [])
 
   conj-plane : conjQ ints (planeOf z w u x c) ≡ value planeE*
   conj-plane = ap (conjQ ints) plane-is ∙ conj-value planeE
@@ -109,7 +124,8 @@ module _ (z w u x c : Ω) (one : mulQ ints u (conjQ ints u) ≡ constQ ints (pos
   axis-real =
       ap (conjQ ints) axis-is
       ∙ conj-value axisE
-      ∙ solve omegas omegas-laws atoms (var 8 ⊗ (var 1 ⊗ var 0 ⊕ ⊖ (var 3 ⊗ var 2)) ⊕ ⊖ (var 1 ⊗ var 3 ⊗ (var 4 ⊗ var 6) ⊕ var 0 ⊗ var 2 ⊗ (var 5 ⊗ var 7))) axisE tt
+      ∙ solve omegas omegas-laws atoms
+      (var 8 ⊗ (var 1 ⊗ var 0 ⊕ ⊖ (var 3 ⊗ var 2)) ⊕ ⊖ (var 1 ⊗ var 3 ⊗ (var 4 ⊗ var 6) ⊕ var 0 ⊗ var 2 ⊗ (var 5 ⊗ var 7))) axisE tt
       ∙ sym axis-is
 
   -- the entries of M·[c, x*; x, -c]
@@ -129,7 +145,12 @@ module _ (z w u x c : Ω) (one : mulQ ints u (conjQ ints u) ≡ constQ ints (pos
   but-for : (f e g : Expr) → T (same (e ⊝ g) (f ⊗ (var 4 ⊗ var 5 ⊝ con (pos 1)) ⊕ con (pos 0))) → value e ≡ value g
   but-for f e g t = solve-from omegas omegas-laws atoms (record { c = f; l = var 4 ⊗ var 5; r = con (pos 1) } ∷ []) e g t (one, tt)
 
-  pub turned-entries : mulM omegas (mulM omegas (record { p = z; q = negQ ints (mulQ ints (conjQ ints w) u); r = w; s = mulQ ints (conjQ ints z) u }) (record { p = c; q = conjQ ints x; r = x; s = negQ ints c })) (record { p = conjQ ints z; q = conjQ ints w; r = negQ ints (mulQ ints w (conjQ ints u)); s = mulQ ints z (conjQ ints u) }) ≡ record { p = axisOf z w u x c; q = conjQ ints (planeOf z w u x c); r = planeOf z w u x c; s = negQ ints (axisOf z w u x c) }
+  pub turned-entries :
+      mulM omegas
+      (mulM omegas (record { p = z; q = negQ ints (mulQ ints (conjQ ints w) u); r = w; s = mulQ ints (conjQ ints z) u })
+      (record { p = c; q = conjQ ints x; r = x; s = negQ ints c }))
+      (record { p = conjQ ints z; q = conjQ ints w; r = negQ ints (mulQ ints w (conjQ ints u)); s = mulQ ints z (conjQ ints u) })
+      ≡ record { p = axisOf z w u x c; q = conjQ ints (planeOf z w u x c); r = planeOf z w u x c; s = negQ ints (axisOf z w u x c) }
   turned-entries =
       mat-path
       (but-for (⊖ (var 8 ⊗ (var 2 ⊗ var 3))) (E₁ ⊗ var 1 ⊕ E₂ ⊗ ⊖ (var 2 ⊗ var 5)) axisE tt ∙ sym axis-is)
@@ -138,19 +159,25 @@ module _ (z w u x c : Ω) (one : mulQ ints u (conjQ ints u) ≡ constQ ints (pos
       (but-for (⊖ (var 8 ⊗ (var 0 ⊗ var 1))) (E₃ ⊗ var 3 ⊕ E₄ ⊗ (var 0 ⊗ var 5)) (⊖ axisE) tt ∙ ap (negQ ints) (sym axis-is))
 
 -- ---- root two times such a matrix is a vector's
-sigma-of : (x c : Ω) → conjQ ints c ≡ c → scaleM omegas (root2 ints) (record { p = c; q = conjQ ints x; r = x; s = negQ ints c }) ≡ sigma ints (record { x = realOf x; y = imagOf x; z = timesR ints (toRoot c) })
+sigma-of : (x c : Ω) → conjQ ints c ≡ c
+    → scaleM omegas (root2 ints) (record { p = c; q = conjQ ints x; r = x; s = negQ ints c })
+    ≡ sigma ints (record { x = realOf x; y = imagOf x; z = timesR ints (toRoot c) })
 sigma-of x c real =
     mat-path
     axis-times
-    (solveQ ints ints-laws (parts x []) (mulQ exprs (root2 exprs) (conjQ exprs X₀)) (record { a = ⊖ (X₀ .d ⊕ X₀ .b); b = ⊖ (X₀ .c ⊕ X₀ .a); c = X₀ .d ⊝ X₀ .b; d = X₀ .c ⊝ X₀ .a }) (tt, tt, tt, tt))
-    (solveQ ints ints-laws (parts x []) (mulQ exprs (root2 exprs) X₀) (record { a = X₀ .b ⊝ X₀ .d; b = X₀ .c ⊕ X₀ .a; c = X₀ .d ⊕ X₀ .b; d = X₀ .c ⊝ X₀ .a }) (tt, tt, tt, tt))
+    (solveQ ints ints-laws (parts x []) (mulQ exprs (root2 exprs) (conjQ exprs X₀))
+    (record { a = ⊖ (X₀ .d ⊕ X₀ .b); b = ⊖ (X₀ .c ⊕ X₀ .a); c = X₀ .d ⊝ X₀ .b; d = X₀ .c ⊝ X₀ .a }) (tt, tt, tt, tt))
+    (solveQ ints ints-laws (parts x []) (mulQ exprs (root2 exprs) X₀)
+    (record { a = X₀ .b ⊝ X₀ .d; b = X₀ .c ⊕ X₀ .a; c = X₀ .d ⊕ X₀ .b; d = X₀ .c ⊝ X₀ .a }) (tt, tt, tt, tt))
     (ring₂ omegas omegas-laws (λ r c. r ⊗ ⊖ c) (λ r c. ⊖ (r ⊗ c)) tt (root2 ints) c ∙ ap (negQ ints) axis-times ∙ signs (timesR ints (toRoot c)))
   where
     axis-times : mulQ ints (root2 ints) c ≡ ofRoot ints (timesR ints (toRoot c))
     axis-times = ap (mulQ ints (root2 ints)) (sym (ofRoot-real c real)) ∙ sym (ofRoot-times ints ints-laws (toRoot c))
 
     signs : (r : Root ℤ) → negQ ints (ofRoot ints r) ≡ record { a = r .q; b = pos 0; c = negℤ (r .q); d = negℤ (r .p) }
-    signs r = solveQ ints ints-laws (r .p ∷ r .q ∷ []) (record { a = ⊖ (⊖ (var 1)); b = ⊖ (con (pos 0)); c = ⊖ (var 1); d = ⊖ (var 0) }) (record { a = var 1; b = con (pos 0); c = ⊖ (var 1); d = ⊖ (var 0) }) (tt, tt, tt, tt)
+    signs r =
+        solveQ ints ints-laws (r .p ∷ r .q ∷ []) (record { a = ⊖ (⊖ (var 1)); b = ⊖ (con (pos 0)); c = ⊖ (var 1); d = ⊖ (var 0) })
+        (record { a = var 1; b = con (pos 0); c = ⊖ (var 1); d = ⊖ (var 0) }) (tt, tt, tt, tt)
 
 -- ---- the rotation
 module _ (t : Triple) (v : Vect ℤ) where
@@ -162,7 +189,8 @@ module _ (t : Triple) (v : Vect ℤ) where
       ap (scaleM omegas (root2 ints))
       (ap₂ (λ s r. mulM omegas (mulM omegas (entries t .m) s) r) (sigma-is v) (star-entries t)
       ∙ turned-entries (t .z) (t .w) (omega^ (t .n)) (plane v) (axis v) (omega^-conj (t .n)) axis-conj)
-      ∙ sigma-of (planeOf (t .z) (t .w) (omega^ (t .n)) (plane v) (axis v)) (axisOf (t .z) (t .w) (omega^ (t .n)) (plane v) (axis v)) (axis-real (t .z) (t .w) (omega^ (t .n)) (plane v) (axis v) (omega^-conj (t .n)) axis-conj)
+      ∙ sigma-of (planeOf (t .z) (t .w) (omega^ (t .n)) (plane v) (axis v)) (axisOf (t .z) (t .w) (omega^ (t .n)) (plane v) (axis v))
+      (axis-real (t .z) (t .w) (omega^ (t .n)) (plane v) (axis v) (omega^-conj (t .n)) axis-conj)
 
   pub turns-triple : Turns (entries t) v (rotate t v) (suc (t .k + t .k))
   turns-triple =
@@ -181,7 +209,9 @@ module _ (t : Triple) (v : Vect ℤ) where
 pub rotate-mul : (s t : Triple) (v : Vect ℤ) → timesV ints (rotate (mulT s t) v) ≡ rotate s (rotate t v)
 rotate-mul s t v =
     lift-cancel f (lift 1 (rotate (mulT s t) v)) (rotate s (rotate t v))
-    (sym (lift-add f 1 (rotate (mulT s t) v)) ∙ ap (λ n. lift n (rotate (mulT s t) v)) (count (s .k) (t .k)) ∙ turns-same (Same-of (mulT-is s t)) (turns-triple (mulT s t) v) (turns-mul (turns-triple s (rotate t v)) (turns-triple t v)))
+    (sym (lift-add f 1 (rotate (mulT s t) v))
+    ∙ ap (λ n. lift n (rotate (mulT s t) v)) (count (s .k) (t .k))
+    ∙ turns-same (Same-of (mulT-is s t)) (turns-triple (mulT s t) v) (turns-mul (turns-triple s (rotate t v)) (turns-triple t v)))
   where
     f : ℕ
     f = suc ((s .k + t .k) + (s .k + t .k))
@@ -190,5 +220,6 @@ rotate-mul s t v =
     count j k = omega arith
 
 -- a word's turning and its triple's rotation, each scaled by the other's root twos
-pub rotate-word : (t : Triple) (u : List Letter) → Same (entries t) (word u) → (v : Vect ℤ) → lift (tees u) (rotate t v) ≡ lift (suc (t .k + t .k)) (turn u v)
+pub rotate-word : (t : Triple) (u : List Letter) → Same (entries t) (word u) → (v : Vect ℤ)
+    → lift (tees u) (rotate t v) ≡ lift (suc (t .k + t .k)) (turn u v)
 rotate-word t u h v = turns-same h (turns-triple t v) (turns-word u v)

@@ -23,7 +23,8 @@ pub turns-unit : (v : Vect ℤ) → Turns unit v v 0
 turns-unit v =
     record {
       turned =
-          ap (lifted 0) (ap (λ m. mulM omegas m (unit .m)) (unit-mulM omegas omegas-laws (sigma ints v)) ∙ mulM-unit omegas omegas-laws (sigma ints v))
+          ap (lifted 0)
+          (ap (λ m. mulM omegas m (unit .m)) (unit-mulM omegas omegas-laws (sigma ints v)) ∙ mulM-unit omegas omegas-laws (sigma ints v))
           ∙ sym (scale-one omegas omegas-laws (lifted 0 (sigma ints v)));
     }
 
@@ -45,10 +46,16 @@ turns-mul {x} {z} {v} {y} {y′} {f} {f′} h k =
 
 -- ---- one matrix turns a vector in one way
 -- from c·u = a²·p, d·v = b²·q and b²·u = a²·v follows a²b²·(d·p) = a²b²·(c·q)
-mix : (a b c d u v p q : Ω) → mulQ ints c u ≡ mulQ ints a (mulQ ints a p) → mulQ ints d v ≡ mulQ ints b (mulQ ints b q) → mulQ ints b (mulQ ints b u) ≡ mulQ ints a (mulQ ints a v) → mulQ ints a (mulQ ints a (mulQ ints b (mulQ ints b (mulQ ints d p)))) ≡ mulQ ints a (mulQ ints a (mulQ ints b (mulQ ints b (mulQ ints c q))))
+mix : (a b c d u v p q : Ω) → mulQ ints c u ≡ mulQ ints a (mulQ ints a p) → mulQ ints d v ≡ mulQ ints b (mulQ ints b q)
+    → mulQ ints b (mulQ ints b u) ≡ mulQ ints a (mulQ ints a v)
+    → mulQ ints a (mulQ ints a (mulQ ints b (mulQ ints b (mulQ ints d p))))
+    ≡ mulQ ints a (mulQ ints a (mulQ ints b (mulQ ints b (mulQ ints c q))))
 mix a b c d u v p q h k m =
     solve-from omegas omegas-laws (a ∷ b ∷ c ∷ d ∷ u ∷ v ∷ p ∷ q ∷ [])
-    (record { c = con (negsuc 0) ⊗ (B ⊗ B ⊗ D); l = C ⊗ U; r = A ⊗ (A ⊗ P) } ∷ record { c = C ⊗ A ⊗ A; l = D ⊗ V′; r = B ⊗ (B ⊗ Q) } ∷ record { c = C ⊗ D; l = B ⊗ (B ⊗ U); r = A ⊗ (A ⊗ V′) } ∷ [])
+    (record { c = con (negsuc 0) ⊗ (B ⊗ B ⊗ D); l = C ⊗ U; r = A ⊗ (A ⊗ P) } ∷
+    record { c = C ⊗ A ⊗ A; l = D ⊗ V′; r = B ⊗ (B ⊗ Q) } ∷
+    record { c = C ⊗ D; l = B ⊗ (B ⊗ U); r = A ⊗ (A ⊗ V′) } ∷
+    [])
     (A ⊗ (A ⊗ (B ⊗ (B ⊗ (D ⊗ P))))) (A ⊗ (A ⊗ (B ⊗ (B ⊗ (C ⊗ Q))))) tt (h, (k, (m, tt)))
   where
     A : Expr
@@ -76,17 +83,22 @@ mix a b c d u v p q h k m =
     Q = var 7
 
 -- the same with powers of root two, which are cancelled
-mixed : (j k m n : ℕ) (u v p q : Ω) → mulQ ints (root2^ m) u ≡ mulQ ints (root2^ j) (mulQ ints (root2^ j) p) → mulQ ints (root2^ n) v ≡ mulQ ints (root2^ k) (mulQ ints (root2^ k) q) → mulQ ints (root2^ k) (mulQ ints (root2^ k) u) ≡ mulQ ints (root2^ j) (mulQ ints (root2^ j) v) → mulQ ints (root2^ n) p ≡ mulQ ints (root2^ m) q
+mixed : (j k m n : ℕ) (u v p q : Ω) → mulQ ints (root2^ m) u ≡ mulQ ints (root2^ j) (mulQ ints (root2^ j) p)
+    → mulQ ints (root2^ n) v ≡ mulQ ints (root2^ k) (mulQ ints (root2^ k) q)
+    → mulQ ints (root2^ k) (mulQ ints (root2^ k) u) ≡ mulQ ints (root2^ j) (mulQ ints (root2^ j) v)
+    → mulQ ints (root2^ n) p ≡ mulQ ints (root2^ m) q
 mixed j k m n u v p q f g h =
     let P : Ω = mulQ ints (root2^ n) p in
     let Q : Ω = mulQ ints (root2^ m) q in
     root2^-cancel k P Q
     (root2^-cancel k (mulQ ints (root2^ k) P) (mulQ ints (root2^ k) Q)
     (root2^-cancel j (mulQ ints (root2^ k) (mulQ ints (root2^ k) P)) (mulQ ints (root2^ k) (mulQ ints (root2^ k) Q))
-    (root2^-cancel j (mulQ ints (root2^ j) (mulQ ints (root2^ k) (mulQ ints (root2^ k) P))) (mulQ ints (root2^ j) (mulQ ints (root2^ k) (mulQ ints (root2^ k) Q)))
+    (root2^-cancel j (mulQ ints (root2^ j) (mulQ ints (root2^ k) (mulQ ints (root2^ k) P)))
+    (mulQ ints (root2^ j) (mulQ ints (root2^ k) (mulQ ints (root2^ k) Q)))
     (mix (root2^ j) (root2^ k) (root2^ m) (root2^ n) u v p q f g h))))
 
-mixedM : (j k m n : ℕ) (u v p q : Mat Ω) → lifted m u ≡ lifted j (lifted j p) → lifted n v ≡ lifted k (lifted k q) → lifted k (lifted k u) ≡ lifted j (lifted j v) → lifted n p ≡ lifted m q
+mixedM : (j k m n : ℕ) (u v p q : Mat Ω) → lifted m u ≡ lifted j (lifted j p) → lifted n v ≡ lifted k (lifted k q)
+    → lifted k (lifted k u) ≡ lifted j (lifted j v) → lifted n p ≡ lifted m q
 mixedM j k m n u v p q f g h =
     mat-path
     (mixed j k m n (u .p) (v .p) (p .p) (q .p) (ap (λ x. x .p) f) (ap (λ x. x .p) g) (ap (λ x. x .p) h))

@@ -69,7 +69,11 @@ lift-cancel zero v w h = h
 lift-cancel (suc n) v w h = lift-cancel n v w (once (lift n v) (lift n w) h)
   where
     once : (v w : Vect ℤ) → timesV ints v ≡ timesV ints w → v ≡ w
-    once v w e = vect-path (timesR-cancel (v .x) (w .x) (ap (λ u. u .x) e)) (timesR-cancel (v .y) (w .y) (ap (λ u. u .y) e)) (timesR-cancel (v .z) (w .z) (ap (λ u. u .z) e))
+    once v w e =
+        vect-path
+        (timesR-cancel (v .x) (w .x) (ap (λ u. u .x) e))
+        (timesR-cancel (v .y) (w .y) (ap (λ u. u .y) e))
+        (timesR-cancel (v .z) (w .z) (ap (λ u. u .z) e))
 
 -- ---- the solver's vector
 abbrev pub V₀ : Vect Expr

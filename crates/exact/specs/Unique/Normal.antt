@@ -8,7 +8,8 @@ use native.Mathlib.Omega.{arith}
 use lib.IntN.{ℤ}
 use Rattle.exact.specs.Meaning.Matrix.{_·_, unit, Same}
 use Rattle.exact.specs.Meaning.Word.{Letter, H, S, X, W, T′, letter, word, tees}
-use Rattle.exact.specs.Meaning.Normal.{Syllable, HT, SHT, Front, nothing, onlyH, onlySH, Tail, Shape, times, frontWord, tailWord, orI, after, leading, spell, Fits, Normal}
+use Rattle.exact.specs.Meaning.Normal.{Syllable, HT, SHT, Front, nothing, onlyH, onlySH, Tail, Shape, times, frontWord, tailWord, orI}
+use Rattle.exact.specs.Meaning.Normal.{after, leading, spell, Fits, Normal}
 use Rattle.exact.specs.Whole.Parity.{xr-comm, xr-false, false-true}
 use Rattle.exact.specs.Matrices.Same.{unit-mul, Same-sym}
 use Rattle.exact.specs.Matrices.Words.{strike-word}
@@ -53,7 +54,9 @@ abbrev pub core : List Syllable → Tail → List Letter
 core ss t = after ss (tailWord t)
 
 core-bright : (ss : List Syllable) (t : Tail) → Bright (core ss t)
-core-bright ss t = let b = tail-bright (t .front) (t .xs) (t .ss) (t .ws) in record { at = b .at; bright = after-sum ss (tailWord t) (par (b .at)) ∙ b .bright }
+core-bright ss t =
+    let b = tail-bright (t .front) (t .xs) (t .ss) (t .ws) in
+    record { at = b .at; bright = after-sum ss (tailWord t) (par (b .at)) ∙ b .bright }
 
 core-seen : (ss : List Syllable) (t : Tail) → Seen (core ss t)
 core-seen ss t = let b = core-bright ss t in record { at = b .at; odd-there = λ e. false-true (sym (ap sOf e) ∙ b .bright) }
@@ -69,13 +72,19 @@ module _ (u v : List Letter) (su : Seen u) (sv : Seen v) (h : Same (word u) (wor
 
 module _ (ss rr : List Syllable) (t r : Tail) where
   HT-SHT : Same (word (core (HT ∷ ss) t)) (word (core (SHT ∷ rr) r)) → ⊥
-  HT-SHT h = let b = core-bright ss t in clash (core (HT ∷ ss) t) (core (SHT ∷ rr) r) (core-seen (HT ∷ ss) t) (core-seen (SHT ∷ rr) r) h (λ a. a .y) (b .at) (b .bright) refl
+  HT-SHT h =
+      let b = core-bright ss t in
+      clash (core (HT ∷ ss) t) (core (SHT ∷ rr) r) (core-seen (HT ∷ ss) t) (core-seen (SHT ∷ rr) r) h (λ a. a .y) (b .at) (b .bright) refl
 
   T-HT : Same (word (T′ ∷ core ss t)) (word (core (HT ∷ rr) r)) → ⊥
-  T-HT h = let b = core-bright ss t in clash (T′ ∷ core ss t) (core (HT ∷ rr) r) (lead-seen ss t) (core-seen (HT ∷ rr) r) h (λ a. a .x) (b .at) (b .bright) refl
+  T-HT h =
+      let b = core-bright ss t in
+      clash (T′ ∷ core ss t) (core (HT ∷ rr) r) (lead-seen ss t) (core-seen (HT ∷ rr) r) h (λ a. a .x) (b .at) (b .bright) refl
 
   T-SHT : Same (word (T′ ∷ core ss t)) (word (core (SHT ∷ rr) r)) → ⊥
-  T-SHT h = let b = core-bright ss t in clash (T′ ∷ core ss t) (core (SHT ∷ rr) r) (lead-seen ss t) (core-seen (SHT ∷ rr) r) h (λ a. a .y) (b .at) (b .bright) refl
+  T-SHT h =
+      let b = core-bright ss t in
+      clash (T′ ∷ core ss t) (core (SHT ∷ rr) r) (lead-seen ss t) (core-seen (SHT ∷ rr) r) h (λ a. a .y) (b .at) (b .bright) refl
 
 -- ---- a tail against a word with a syllable: T counts differ
 no-tail : (r : Tail) (u : List Letter) (n : ℕ) → tees u ≡ suc n → Seen u → Same (word (tailWord r)) (word u) → ⊥
@@ -114,7 +123,8 @@ shaped b ss t = record { lead = b; syllables = ss; tail = t }
 shape-same : (b : Bool) {ss rr : List Syllable} {t r : Tail} → Cores ss rr t r → shaped b ss t ≡ shaped b rr r
 shape-same b d = λ i. record { lead = b; syllables = d .syllables-same i; tail = d .tails-same i }
 
-led-unique : (a b : Bool) (ss rr : List Syllable) (t r : Tail) → Fits t → Fits r → Same (word (leading a (core ss t))) (word (leading b (core rr r))) → shaped a ss t ≡ shaped b rr r
+led-unique : (a b : Bool) (ss rr : List Syllable) (t r : Tail) → Fits t → Fits r
+    → Same (word (leading a (core ss t))) (word (leading b (core rr r))) → shaped a ss t ≡ shaped b rr r
 led-unique true true ss rr t r ft fr h = shape-same true (core-unique ss rr t r ft fr (strike-word (T′ ∷ []) (core ss t) (core rr r) h))
 led-unique true false ss rr t r ft fr h = absurd (T-core ss rr t r h)
 led-unique false true ss rr t r ft fr h = absurd (T-core rr ss r t (Same-sym h))
@@ -138,14 +148,20 @@ abbrev pub coreOf : Shape → List Letter
 coreOf n = leading (n .lead) (core (n .syllables) (n .tail))
 
 pub spell-word : (n : Shape) → word (spell n) ≡ word (coreOf n)
-spell-word n = leading-word (n .lead) (after (n .syllables) (orI (tailWord (n .tail)))) (core (n .syllables) (n .tail)) (after-word (n .syllables) (orI (tailWord (n .tail))) (tailWord (n .tail)) (orI-word (tailWord (n .tail))))
+spell-word n =
+    leading-word (n .lead) (after (n .syllables) (orI (tailWord (n .tail)))) (core (n .syllables) (n .tail))
+    (after-word (n .syllables) (orI (tailWord (n .tail))) (tailWord (n .tail)) (orI-word (tailWord (n .tail))))
 
 -- ---- the theorem
 pub shape-unique : (m n : Shape) → Fits (m .tail) → Fits (n .tail) → Same (word (spell m)) (word (spell n)) → m ≡ n
-shape-unique m n fm fn h = led-unique (m .lead) (n .lead) (m .syllables) (n .syllables) (m .tail) (n .tail) fm fn (rw (spell-word m, spell-word n) at h)
+shape-unique m n fm fn h =
+    led-unique (m .lead) (n .lead) (m .syllables) (n .syllables) (m .tail) (n .tail) fm fn (rw (spell-word m, spell-word n) at h)
 
 pub unique : {u v : List Letter} → Normal u → Normal v → Same (word u) (word v) → u ≡ v
-unique nu nv h = sym (nu .spelled) ∙ ap spell (shape-unique (nu .shape) (nv .shape) (nu .fits) (nv .fits) (rw (nu .spelled, nv .spelled) h)) ∙ nv .spelled
+unique nu nv h =
+    sym (nu .spelled)
+    ∙ ap spell (shape-unique (nu .shape) (nv .shape) (nu .fits) (nv .fits) (rw (nu .spelled, nv .spelled) h))
+    ∙ nv .spelled
 
 -- ---- a normal word has the fewest T letters of all words with its matrix
 orI-turn : (u : List Letter) (a : Par) → pturn (orI u) a ≡ pturn u a
@@ -161,7 +177,9 @@ spell-turn : (ss : List Syllable) (t : Tail) (a : Par) → pturn (after ss (orI 
 spell-turn ss t a = after-turn ss (orI (tailWord t)) (tailWord t) a (orI-turn (tailWord t) a)
 
 spell-seen : (b : Bool) (ss : List Syllable) (t : Tail) → Seen (leading b (after ss (orI (tailWord t))))
-spell-seen true ss t = let s = lead-seen ss t in record { at = s .at; odd-there = λ e. s .odd-there (ap (pturnL T′) (sym (spell-turn ss t (par (s .at)))) ∙ e) }
+spell-seen true ss t =
+    let s = lead-seen ss t in
+    record { at = s .at; odd-there = λ e. s .odd-there (ap (pturnL T′) (sym (spell-turn ss t (par (s .at)))) ∙ e) }
 spell-seen false ss t = let s = core-seen ss t in record { at = s .at; odd-there = λ e. s .odd-there (sym (spell-turn ss t (par (s .at))) ∙ e) }
 
 pub normal-seen : {u : List Letter} → Normal u → Seen u

@@ -1,5 +1,6 @@
--- Tails: the 192 tails have 192 different matrices, and so have the 192 quadruples (a,b,c,d). Both are a front that sends the third axis to one of the
--- three, and then letters X, S and W; where that axis goes gives the front and the X, and what is left is diagonal. Assumes nothing.
+-- Tails: the 192 tails have 192 different matrices, and so have the 192 quadruples (a,b,c,d). Both are a front that sends the third axis to
+-- one of the three, and then letters X, S and W; where that axis goes gives the front and the X, and what is left is diagonal. Assumes
+-- nothing.
 use mathlib.Core.Path.{_≡_, refl, sym, _∙_, ap, ap₂, subst}
 use mathlib.Core.Bool.{Bool, true, false, cond, _||_}
 use mathlib.Core.List.{List, [], _∷_, _++_}
@@ -75,7 +76,8 @@ diagonal-mul : (a d x y : Ω) → diagonal a d · diagonal x y ≡ diagonal (mul
 diagonal-mul a d x y =
     matrix-path
     (solveM omegas omegas-laws (a ∷ d ∷ x ∷ y ∷ [])
-    (mulM exprs (record { p = var 0; q = con (pos 0); r = con (pos 0); s = var 1 }) (record { p = var 2; q = con (pos 0); r = con (pos 0); s = var 3 }))
+    (mulM exprs (record { p = var 0; q = con (pos 0); r = con (pos 0); s = var 1 })
+    (record { p = var 2; q = con (pos 0); r = con (pos 0); s = var 3 }))
     (record { p = var 0 ⊗ var 2; q = con (pos 0); r = con (pos 0); s = var 1 ⊗ var 3 }) (tt, tt, tt, tt))
     refl
 
@@ -107,7 +109,15 @@ record Ends (m n k l : ℕ) : Type 0 where
 ending-unique : (m n k l : ℕ) → m ≤ 3 → n ≤ 7 → k ≤ 3 → l ≤ 7 → Same (word (ending m n)) (word (ending k l)) → Ends m n k l
 ending-unique m n k l hm hn hk hl h =
     let i : n ≡ l = low n l hn hl (omega^-same n l (ap (λ x. x .p) e)) in
-    record { ss-same = high m k n hm hk hn (ap (λ j. j % 8) (sym (lowerPower-is m n)) ∙ omega^-same (lowerPower m n) (lowerPower k l) (ap (λ x. x .s) e) ∙ ap (λ j. lowerPower k j % 8) (sym i) ∙ ap (λ j. j % 8) (lowerPower-is k n)); ws-same = i }
+    record {
+      ss-same =
+          high m k n hm hk hn
+          (ap (λ j. j % 8) (sym (lowerPower-is m n))
+          ∙ omega^-same (lowerPower m n) (lowerPower k l) (ap (λ x. x .s) e)
+          ∙ ap (λ j. lowerPower k j % 8) (sym i)
+          ∙ ap (λ j. j % 8) (lowerPower-is k n));
+      ws-same = i;
+    }
   where
     e : diagonal (omega^ n) (omega^ (lowerPower m n)) .m ≡ diagonal (omega^ l) (omega^ (lowerPower k l)) .m
     e = Same-level (rw (ending-is m n, ending-is k l) at h) refl
@@ -151,7 +161,14 @@ module _ (front : Front → List Letter) (fronts : Fronts front) where
 
   pub spelled-tees : (t : Tail) → tees (spelled t) ≡ 0
   spelled-tees t =
-      omega (arith, tees-append (front (t .front)) (times (t .xs) X ++ ending (t .ss) (t .ws)), tees-append (times (t .xs) X) (ending (t .ss) (t .ws)), fronts .no-tee (t .front), x-tees (t .xs), ending-tees (t .ss) (t .ws))
+      omega (
+        arith,
+        tees-append (front (t .front)) (times (t .xs) X ++ ending (t .ss) (t .ws)),
+        tees-append (times (t .xs) X) (ending (t .ss) (t .ws)),
+        fronts .no-tee (t .front),
+        x-tees (t .xs),
+        ending-tees (t .ss) (t .ws),
+      )
 
   x-image : (f : Front) (n : ℕ) → n ≤ 1 → turn (front f) (turn (times n X) e₃) ≡ image f n
   x-image f zero h = fronts .sends f
@@ -161,16 +178,21 @@ module _ (front : Front → List Letter) (fronts : Fronts front) where
   spelled-image : (t : Tail) → Fits t → turn (spelled t) e₃ ≡ image (t .front) (t .xs)
   spelled-image t fits =
       turn-append (front (t .front)) (times (t .xs) X ++ ending (t .ss) (t .ws)) e₃
-      ∙ ap (turn (front (t .front))) (turn-append (times (t .xs) X) (ending (t .ss) (t .ws)) e₃ ∙ ap (turn (times (t .xs) X)) (turn-ending (t .ss) (t .ws)))
+      ∙ ap (turn (front (t .front)))
+      (turn-append (times (t .xs) X) (ending (t .ss) (t .ws)) e₃ ∙ ap (turn (times (t .xs) X)) (turn-ending (t .ss) (t .ws)))
       ∙ x-image (t .front) (t .xs) (omega (arith, fits .xs-few))
 
   pub spelled-unique : (t r : Tail) → Fits t → Fits r → Same (word (spelled t)) (word (spelled r)) → t ≡ r
   spelled-unique t r ft fr h =
-      let d : Ends (t .ss) (t .ws) (r .ss) (r .ws) = ending-unique (t .ss) (t .ws) (r .ss) (r .ws) (ft .ss-few) (ft .ws-few) (fr .ss-few) (fr .ws-few) rest in
+      let d : Ends (t .ss) (t .ws) (r .ss) (r .ws) =
+      ending-unique (t .ss) (t .ws) (r .ss) (r .ws) (ft .ss-few) (ft .ws-few) (fr .ss-few) (fr .ws-few) rest in
       λ i. record { front = front-same i; xs = xs-same i; ss = d .ss-same i; ws = d .ws-same i }
     where
       turns : turn (spelled t) e₃ ≡ turn (spelled r) e₃
-      turns = ap (λ n. lift n (turn (spelled t) e₃)) (sym (spelled-tees r)) ∙ same-turn (spelled t) (spelled r) h e₃ ∙ ap (λ n. lift n (turn (spelled r) e₃)) (spelled-tees t)
+      turns =
+          ap (λ n. lift n (turn (spelled t) e₃)) (sym (spelled-tees r))
+          ∙ same-turn (spelled t) (spelled r) h e₃
+          ∙ ap (λ n. lift n (turn (spelled r) e₃)) (spelled-tees t)
 
       images : image (t .front) (t .xs) ≡ image (r .front) (r .xs)
       images = sym (spelled-image t ft) ∙ turns ∙ spelled-image r fr
@@ -267,4 +289,6 @@ clifford-unique q r hq hr h =
     word-is q f = ap (λ n. word (cycle n ++ (times (q .b) X ++ ending (q .c) (q .d)))) (f .is)
 
     e : tailOf q (f .front) ≡ tailOf r (g .front)
-    e = spelled-unique (λ f. cycle (turnsOf f)) cycle-fronts (tailOf q (f .front)) (tailOf r (g .front)) (few q hq (f .front)) (few r hr (g .front)) (rw (word-is q f, word-is r g) h)
+    e =
+        spelled-unique (λ f. cycle (turnsOf f)) cycle-fronts (tailOf q (f .front)) (tailOf r (g .front)) (few q hq (f .front))
+        (few r hr (g .front)) (rw (word-is q f, word-is r g) h)

@@ -2,7 +2,8 @@
 -- Each is by induction on the first factor, by successor and predecessor (`ℤ-steps`). Assumes nothing.
 use mathlib.Core.Path.{_≡_, sym, _∙_, ap, ap₂}
 use Prim.Native.Nat.{zero, suc}
-use lib.IntN.{ℤ, pos, negsuc, one, sucℤ, predℤ, negℤ, _+ℤ_, _-ℤ_, _*ℤ_, +ℤ-idl, +ℤ-idr, +ℤ-assoc, +ℤ-comm, +ℤ-invl, +ℤ-invr, sucℤ-+ℤ, predℤ-+ℤ, zero-*ℤ, *ℤ-one, sucℤ-*ℤ, predℤ-*ℤ, *ℤ-comm}
+use lib.IntN.{ℤ, pos, negsuc, one, sucℤ, predℤ, negℤ, _+ℤ_, _-ℤ_, _*ℤ_, +ℤ-idl, +ℤ-idr, +ℤ-assoc, +ℤ-comm, +ℤ-invl, +ℤ-invr, sucℤ-+ℤ}
+use lib.IntN.{predℤ-+ℤ, zero-*ℤ, *ℤ-one, sucℤ-*ℤ, predℤ-*ℤ, *ℤ-comm}
 
 -- what holds at 0 and is kept by successor and predecessor holds at every integer
 pub ℤ-steps {ℓ} : (P : ℤ → Type ℓ) → P (pos zero) → ((k : ℤ) → P k → P (sucℤ k)) → ((k : ℤ) → P k → P (predℤ k)) → (k : ℤ) → P k
@@ -18,8 +19,16 @@ pub +ℤ-swap : (a b c : ℤ) → a +ℤ b +ℤ c ≡ a +ℤ c +ℤ b
 pub +ℤ-*ℤ : (a b c : ℤ) → (a +ℤ b) *ℤ c ≡ a *ℤ c +ℤ b *ℤ c
 +ℤ-*ℤ a b c = ℤ-steps (λ k. (k +ℤ b) *ℤ c ≡ k *ℤ c +ℤ b *ℤ c)
     (ap (λ x. x *ℤ c) (+ℤ-idl b) ∙ sym (ap (λ x. x +ℤ b *ℤ c) (zero-*ℤ c) ∙ +ℤ-idl (b *ℤ c)))
-    (λ k h. ap (λ x. x *ℤ c) (sucℤ-+ℤ k b) ∙ sucℤ-*ℤ (k +ℤ b) c ∙ ap (λ x. x +ℤ c) h ∙ +ℤ-swap (k *ℤ c) (b *ℤ c) c ∙ ap (λ x. x +ℤ b *ℤ c) (sym (sucℤ-*ℤ k c)))
-    (λ k h. ap (λ x. x *ℤ c) (predℤ-+ℤ k b) ∙ predℤ-*ℤ (k +ℤ b) c ∙ ap (λ x. x -ℤ c) h ∙ +ℤ-swap (k *ℤ c) (b *ℤ c) (negℤ c) ∙ ap (λ x. x +ℤ b *ℤ c) (sym (predℤ-*ℤ k c)))
+    (λ k h. ap (λ x. x *ℤ c) (sucℤ-+ℤ k b)
+    ∙ sucℤ-*ℤ (k +ℤ b) c
+    ∙ ap (λ x. x +ℤ c) h
+    ∙ +ℤ-swap (k *ℤ c) (b *ℤ c) c
+    ∙ ap (λ x. x +ℤ b *ℤ c) (sym (sucℤ-*ℤ k c)))
+    (λ k h. ap (λ x. x *ℤ c) (predℤ-+ℤ k b)
+    ∙ predℤ-*ℤ (k +ℤ b) c
+    ∙ ap (λ x. x -ℤ c) h
+    ∙ +ℤ-swap (k *ℤ c) (b *ℤ c) (negℤ c)
+    ∙ ap (λ x. x +ℤ b *ℤ c) (sym (predℤ-*ℤ k c)))
     a
 
 pub *ℤ-+ℤ : (a b c : ℤ) → a *ℤ (b +ℤ c) ≡ a *ℤ b +ℤ a *ℤ c

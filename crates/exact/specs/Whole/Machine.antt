@@ -1,6 +1,7 @@
--- Signed machine integers. `Code` is an expression as it stands in a function's body; `ran` is what its last operation hands over, with each operand read
--- back from the bits that it was stored as, which is how the borrow checker states a need. Where each part is within its range by bounds on the arguments,
--- one computed test (`allFit`), every need of the expression holds (`need-by`), and its value is the exact one (`result-by`). Assumes nothing.
+-- Signed machine integers. `Code` is an expression as it stands in a function's body; `ran` is what its last operation hands over, with
+-- each operand read back from the bits that it was stored as, which is how the borrow checker states a need. Where each part is within its
+-- range by bounds on the arguments, one computed test (`allFit`), every need of the expression holds (`need-by`), and its value is the
+-- exact one (`result-by`). Assumes nothing.
 use mathlib.Core.Path.{_≡_, refl, sym, _∙_, ap, ap₂, subst}
 use mathlib.Core.Bool.{Bool, _&&_}
 use mathlib.Core.List.{List}

@@ -143,10 +143,32 @@ module _ (x y : ℤ) (e : odd (x +ℤ y) ≡ false) where
   odd-other = odd-sub x y ∙ sym (odd-add x y) ∙ e
 
   pub half-plus : half (x +ℤ y) +ℤ half (x -ℤ y) ≡ x
-  half-plus = omega (arith, int, sum x y, difference x y, half-double (x +ℤ y) e, half-double (x -ℤ y) odd-other, sum (half (x +ℤ y)) (half (x +ℤ y)), sum (half (x -ℤ y)) (half (x -ℤ y)), sum (half (x +ℤ y)) (half (x -ℤ y)))
+  half-plus =
+      omega (
+        arith,
+        int,
+        sum x y,
+        difference x y,
+        half-double (x +ℤ y) e,
+        half-double (x -ℤ y) odd-other,
+        sum (half (x +ℤ y)) (half (x +ℤ y)),
+        sum (half (x -ℤ y)) (half (x -ℤ y)),
+        sum (half (x +ℤ y)) (half (x -ℤ y)),
+      )
 
   pub half-minus : half (x +ℤ y) -ℤ half (x -ℤ y) ≡ y
-  half-minus = omega (arith, int, sum x y, difference x y, half-double (x +ℤ y) e, half-double (x -ℤ y) odd-other, sum (half (x +ℤ y)) (half (x +ℤ y)), sum (half (x -ℤ y)) (half (x -ℤ y)), difference (half (x +ℤ y)) (half (x -ℤ y)))
+  half-minus =
+      omega (
+        arith,
+        int,
+        sum x y,
+        difference x y,
+        half-double (x +ℤ y) e,
+        half-double (x -ℤ y) odd-other,
+        sum (half (x +ℤ y)) (half (x +ℤ y)),
+        sum (half (x -ℤ y)) (half (x -ℤ y)),
+        difference (half (x +ℤ y)) (half (x -ℤ y)),
+      )
 
 -- two numbers with one double are one
 pub halved : (a b : ℤ) → a +ℤ a ≡ b +ℤ b → a ≡ b

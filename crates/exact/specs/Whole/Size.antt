@@ -95,4 +95,6 @@ module _ (xs : List ℤ) (bs : List ℕ) (h : Within xs bs) (e : Expr) where
 
   -- the value fits a width
   pub fits-by : (w : Width) → T (ltb (bound (λ i. getD bs i 0) e) (2 ^ hbits w)) → SFits w (eval ints (at ints xs) e)
-  fits-by w t = sfits-abs (lt-of-le-of-lt (bounded (at ints xs) (λ i. getD bs i 0) (within-at xs bs h) e) (ltb→lt (bound (λ i. getD bs i 0) e) (2 ^ hbits w) t))
+  fits-by w t =
+      sfits-abs
+      (lt-of-le-of-lt (bounded (at ints xs) (λ i. getD bs i 0) (within-at xs bs h) e) (ltb→lt (bound (λ i. getD bs i 0) e) (2 ^ hbits w) t))

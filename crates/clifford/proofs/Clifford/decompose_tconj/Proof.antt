@@ -23,10 +23,7 @@ ranged-requires : tie.Need-ranged-requires
 ranged-requires c κs = search needs
 
 returns : tie.Need-returns
-returns c =
-    let the-args = c .before .before .before .before .before .before .before .before .args in
-    let the-tconj-row = c .before .before .before .before .before .tconj-row in
-    tconj-by (the-args .self) (c .ranged .result) (the-tconj-row .result) (the-tconj-row .ensures) (c .ranged .ensures)
+returns c = search (needs, tconj-by)
 
 pub decompose-tconj-spec : {M : Type 1} → statement M
 decompose-tconj-spec =

@@ -1,5 +1,4 @@
 -- `clifford::Clifford::inverse` meets its contract. Assumes nothing.
-use mathlib.Core.Path.{_∙_}
 use borrow.Author.Needs.{needs}
 use Rattle.clifford.specs.Cliffords.{inv-by}
 use Rattle.clifford.proofs.Clifford.inverse.Statement.{statement}
@@ -30,10 +29,7 @@ ranged-requires : tie.Need-ranged-requires
 ranged-requires c κs = search needs
 
 returns : tie.Need-returns
-returns c =
-    let the-args = c .before .before .before .before .before .before .before .args in
-    let the-cinv-row = c .before .before .before .cinv-row in
-    c .ranged .ensures ∙ inv-by (the-args .self) (the-cinv-row .result) (the-cinv-row .ensures)
+returns c = search (needs, inv-by)
 
 pub inverse-spec : {M : Type 1} → statement M
 inverse-spec =

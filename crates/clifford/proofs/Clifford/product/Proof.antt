@@ -1,6 +1,4 @@
 -- `clifford::Clifford::product` meets its contract. Assumes nothing.
-use mathlib.Core.Path.{_∙_}
-use native.Mathlib.Omega.{arith}
 use borrow.Author.Needs.{needs}
 use Rattle.clifford.specs.Cliffords.{mul-by}
 use Rattle.clifford.proofs.Clifford.product.Statement.{statement}
@@ -36,38 +34,30 @@ add-ranged c = search needs
 add-ranged-2 : tie.Need-add-ranged-2
 add-ranged-2 c = search needs
 
+-- where both rows are read, from the third sum on; and the start, from there: named, so that `search` finds what is known there
+abbrev the-rows : tie.After-struct-known11 → tie.After-conj2-row
+the-rows c = let e = c .before .before .before in e .before .before .before
+
+abbrev the-start : tie.After-conj2-row → tie.Start
+the-start c = let e = c .before .before .before in e .before .before .before .before
+
 add-ranged-3 : tie.Need-add-ranged-3
-add-ranged-3 c =
-    let the-conj2-row = c .before .before .before .before .before .before .conj2-row in
-    let the-pre = c .before .before .before .before .before .before .before .before .before .before .before .before .before .pre in
-    omega (arith, the-conj2-row .ensures .c-few, the-pre .1 .c-few)
+add-ranged-3 c = let rows = the-rows c in let start = the-start rows in search needs
 
 add-ranged-4 : tie.Need-add-ranged-4
 add-ranged-4 c = search needs
 
 add-ranged-5 : tie.Need-add-ranged-5
-add-ranged-5 c =
-    let the-conj3-row = c .before .before .before .before .before .before .before .before .before .before .before .before .conj3-row in
-    let the-conj2-row = c .before .before .before .before .before .before .before .before .before .conj2-row in
-    let the-pre = c .before .before .before .before .before .before .before .before .before .before .before .before .before .before .before .before .pre in
-    omega (arith, the-conj3-row .ensures .ranged .d-few, the-conj2-row .ensures .d-few, the-pre .0 .d-few)
+add-ranged-5 c = let rows = the-rows (c .before .before .before) in let start = the-start rows in search needs
 
 add-ranged-6 : tie.Need-add-ranged-6
-add-ranged-6 c =
-    let the-conj3-row = c .before .before .before .before .before .before .before .before .before .before .before .before .before .conj3-row in
-    let the-conj2-row = c .before .before .before .before .before .before .before .before .before .before .conj2-row in
-    let the-pre = c .before .before .before .before .before .before .before .before .before .before .before .before .before .before .before .before .before .pre in
-    omega (arith, the-conj3-row .ensures .ranged .d-few, the-conj2-row .ensures .d-few, the-pre .0 .d-few, the-pre .1 .d-few)
+add-ranged-6 c = let rows = the-rows (c .before .before .before .before) in let start = the-start rows in search needs
 
 ranged-requires : tie.Need-ranged-requires
 ranged-requires c κs = search needs
 
 returns : tie.Need-returns
-returns c =
-    let the-args = c .before .before .before .before .before .before .before .before .before .before .before .before .before .before .before .before .before .before .args in
-    let the-conj3-row = c .before .before .before .before .before .before .before .before .before .before .before .before .before .before .conj3-row in
-    let the-conj2-row = c .before .before .before .before .before .before .before .before .before .before .before .conj2-row in
-    c .ranged .ensures ∙ mul-by (the-args .self) (the-args .rhs) (the-conj3-row .result) (the-conj2-row .result) (the-conj3-row .ensures) (the-conj2-row .ensures)
+returns c = let rows = the-rows (c .before .before .before .before .before) in search (needs, mul-by)
 
 pub product-spec : {M : Type 1} → statement M
 product-spec =

@@ -2,24 +2,25 @@
 use mathlib.Core.Path.{sym, _∙_}
 use Prim.Native.Nat.{_^_}
 use lib.IntN.{pos}
+use borrow.Author.Needs.{needs}
 use Rattle.exact.specs.Algebra.Omega.{quad-path}
 use Rattle.exact.specs.Whole.Machine.{arg, lit, _∸_}
 use Rattle.ring.specs.Number.{quad, turned-back}
-use Rattle.ring.specs.Code.{need₁, gives₁}
+use Rattle.ring.specs.Code.{fits₁, is₁}
 use Rattle.ring.proofs.ZOmega.mul_by_omega_inv.Statement.{statement}
 use Rattle.ring.proofs.ZOmega.mul_by_omega_inv.Tie as tie
 
 sub-t6 : tie.Need-sub-t6
-sub-t6 c = let s = c .before .before .before .before in need₁ (2 ^ 31) (s .args .self) (s .pre .sized) (lit (pos 0) ∸ arg 3) tt
+sub-t6 c = search (needs, fits₁ (2 ^ 31) (lit (pos 0) ∸ arg 3) tt)
 
 returns : tie.Need-returns
 returns c =
     let s = c .before .before .before .before in
     quad-path
-    (gives₁ (2 ^ 31) (s .args .self) (s .pre .sized) (lit (pos 0) ∸ arg 3) tt)
-    (gives₁ (2 ^ 31) (s .args .self) (s .pre .sized) (arg 0) tt)
-    (gives₁ (2 ^ 31) (s .args .self) (s .pre .sized) (arg 1) tt)
-    (gives₁ (2 ^ 31) (s .args .self) (s .pre .sized) (arg 2) tt)
+    (search (needs, is₁ (2 ^ 31) (lit (pos 0) ∸ arg 3) tt))
+    (search (needs, is₁ (2 ^ 31) (arg 0) tt))
+    (search (needs, is₁ (2 ^ 31) (arg 1) tt))
+    (search (needs, is₁ (2 ^ 31) (arg 2) tt))
     ∙ sym (turned-back (quad (s .args .self)))
 
 pub mul-by-omega-inv-spec : {M : Type 1} → statement M
