@@ -1,4 +1,5 @@
--- The closing in code: which power of omega is left, that z is 0 where its residue is, and the letters as they are counted. Assumes nothing.
+-- The closing in code: which power of omega is left, that z is 0 where its residue is, and the letters as they are counted.
+-- Assumes nothing.
 use mathlib.Core.Path.{_≡_, refl, sym, _∙_, ap, ap₂, subst}
 use mathlib.Core.Bool.{Bool, true, false, cond}
 use mathlib.Core.List.{List, _∷_, _++_}
@@ -146,7 +147,10 @@ some-residue t (swapped f z p) e = absurd (e (ap residue z))
 
 -- ---- the closing by n, whether X stands, and the power of omega that is left
 abbrev pub closingBy : ℕ → ℕ → ℕ → declared.Closing
-closingBy n x m = record { tees = n % 2; tail = record { first = 0; h = 0; i = 0; x = x; s = (n + 4 * x + 16 - (n % 2 + 2 * m)) % 8 / 2; w = m } }
+closingBy n x m = record {
+  tees = n % 2;
+  tail = record { first = 0; h = 0; i = 0; x = x; s = (n + 4 * x + 16 - (n % 2 + 2 * m)) % 8 / 2; w = m };
+}
 
 pub record Closes (t : Triple) (c : declared.Closing) : Type 0 where
   pub is : c ≡ closingBy (t .n) (swaps t) (phase t)

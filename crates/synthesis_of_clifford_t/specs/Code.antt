@@ -21,7 +21,8 @@ use Rattle.unitary.specs.Acts.{Good, Both, turnedBack, halved}
 use Rattle.synthesis_of_clifford_t.specs.declared.Reduction as declared
 use Rattle.synthesis_of_clifford_t.specs.declared.Reduction.the-variants as variants
 use Rattle.synthesis_of_clifford_t.specs.Residues.{back, powerBy, fallsBy, powerBy-few}
-use Rattle.synthesis_of_clifford_t.specs.Step.{Ready, Reduction, Ended, Stepped, reduction, power, falls, next, explicit, fallen, over-over, falls-once, next-falls, next-stays}
+use Rattle.synthesis_of_clifford_t.specs.Step.{Ready, Reduction, Ended, Stepped, reduction, power, falls, next}
+use Rattle.synthesis_of_clifford_t.specs.Step.{explicit, fallen, over-over, falls-once, next-falls, next-stays}
 use Rattle.synthesis_of_clifford_t.specs.Synthesised.{reduction-stepped}
 
 -- a reduction's answer as the definition has it
@@ -45,7 +46,8 @@ good-ready g = record { unitary = g .unitary; reduced = g .reduced }
 -- ---- sizes
 power-sized : (n j : ℕ) (x : Ω) → Sized n x → Sized n (mulQ ints (omega^ j) x)
 power-sized n zero x s = rw (omegas-laws .one-mul x) s
-power-sized n (suc j) x s = rw (omegas-laws .mul-assoc (omega′ ints) (omega^ j) x) (omega-sized n (mulQ ints (omega^ j) x) (power-sized n j x s))
+power-sized n (suc j) x s =
+    rw (omegas-laws .mul-assoc (omega′ ints) (omega^ j) x) (omega-sized n (mulQ ints (omega^ j) x) (power-sized n j x s))
 
 -- omega^-m·w is as small as w
 pub small-turned : {x r : Ω} (n j : ℕ) → Sized n x → r ≡ mulQ ints (omega^ j) x → Sized n r
@@ -143,7 +145,12 @@ module _ (t : DOmegaUnitary) (g : Good t) (h : t .k ≤ deepest) (m : ℕ) where
               lower = omega arith
 
               parts : halved (modEight x) ≡ fallen (t .k - 1) (triple t)
-              parts = λ i. record { k = lower i; n = x .n % 8; z = sym (over-over (x .z) (once .0)) i; w = sym (over-over (x .w) (once .1)) i }
+              parts = λ i. record {
+                k = lower i;
+                n = x .n % 8;
+                z = sym (over-over (x .z) (once .0)) i;
+                w = sym (over-over (x .w) (once .1)) i;
+              }
 
           -- k stays: divided once
           pub step-stays : b ≡ false → Both (λ k. triple v ≡ lowered k (triple s)) (s .k) → Stepped m (triple v) ≡ reduction (triple t)

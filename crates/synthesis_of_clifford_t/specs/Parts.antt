@@ -1,4 +1,5 @@
--- Letters written one block after the other, each into the free rest of a working buffer: what stands in it, and what the loop keeps. Assumes nothing.
+-- Letters written one block after the other, each into the free rest of a working buffer: what stands in it, and what the loop keeps.
+-- Assumes nothing.
 use mathlib.Core.Path.{_≡_, refl, sym, _∙_, ap, ap₂, subst}
 use mathlib.Core.List.{List, [], _∷_, _++_, append-nil}
 use Prim.Native.Nat.{ℕ, zero, suc, _+_, _-_, _/_, _%_, _≤_, _<_}
@@ -20,12 +21,13 @@ use Rattle.normal_form.specs.Put.{Put, put-none, put-length, put-more}
 use Rattle.normal_form.specs.Answers.{bytes-append, bytes-length}
 use Rattle.synthesis_of_clifford_t.specs.declared.Reduction as declared
 use Rattle.synthesis_of_clifford_t.specs.declared.Reduction.the-variants as variants
-use Rattle.synthesis_of_clifford_t.specs.Step.{Reduction, Ended, Stepped, reduction, block, power, power-few, next}
+use Rattle.synthesis_of_clifford_t.specs.Step.{Stepped, reduction, block, power, power-few, next}
 use Rattle.synthesis_of_clifford_t.specs.Closing.{closing}
 use Rattle.synthesis_of_clifford_t.specs.Steps.{left, left-next, letters}
 use Rattle.synthesis_of_clifford_t.specs.Counts.{block-length}
 use Rattle.synthesis_of_clifford_t.specs.Synthesised.{reduction-stepped}
-use Rattle.synthesis_of_clifford_t.specs.Loop.{Progress, progress-start, progress-step, progress-room, progress-letters, progress-length}
+use Rattle.synthesis_of_clifford_t.specs.Loop.{Progress, progress-start, progress-step}
+use Rattle.synthesis_of_clifford_t.specs.Loop.{progress-room, progress-letters, progress-length}
 use Rattle.synthesis_of_clifford_t.specs.Code.{answerOf, good-ready}
 
 -- ---- a block, T^m·H with S for TT
@@ -211,8 +213,9 @@ module _ {old : List ℕ} {t : DOmegaUnitary} {buf : List ℕ} {u : DOmegaUnitar
             w .few,
           )
 
-      pub step-writing : (rest : List ℕ) (r : ℕ) →
-          Put (free buf len) 0 (bytes (block m)) rest r → Writing old t (filled buf len rest) s (len + r)
+      pub step-writing : (rest : List ℕ) (r : ℕ)
+          → Put (free buf len) 0 (bytes (block m)) rest r
+          → Writing old t (filled buf len rest) s (len + r)
       step-writing rest r p = record {
         written = w .written ++ block m;
         count = suc (w .count);

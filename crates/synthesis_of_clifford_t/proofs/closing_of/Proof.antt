@@ -1,5 +1,6 @@
 -- `synthesis_of_clifford_t::closing_of` meets its contract: by the residue of z, which is 0 where z is.
-use Rattle.synthesis_of_clifford_t.specs.Closes.{z-small, w-small, unit-small, swapped-few, swapped-closes, diagonal-few, diagonal-closes}
+use Rattle.synthesis_of_clifford_t.specs.Closes.{z-small, w-small, unit-small}
+use Rattle.synthesis_of_clifford_t.specs.Closes.{swapped-few, swapped-closes, diagonal-few, diagonal-closes}
 use borrow.Author.Needs.{needs}
 use Rattle.synthesis_of_clifford_t.proofs.closing_of.Statement.{statement}
 use Rattle.synthesis_of_clifford_t.proofs.closing_of.Tie as tie

@@ -42,6 +42,7 @@ falls-requires c κs = search (needs, residue-few)
 halved-requires : tie.Need-halved-requires
 halved-requires c κs = search (needs, raised-z, raised-w, raised-over-1)
 
+-- `search` enters 128 records of what is at hand; the first half of the path lies beyond them, and is named from `power` on
 returns-2 : tie.Need-returns-2
 returns-2 c =
     let the-power = c .before .before .before .before .before in
