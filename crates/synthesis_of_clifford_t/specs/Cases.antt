@@ -1,5 +1,5 @@
--- The letters and steps of some triples, as one computed table: document 01's cases before normalising, the two that are written reduced by many
--- exponents, the longest closing, and words that come back as they were. Assumes nothing.
+-- The letters and steps of some triples, as one computed table: document 01's cases before normalising, the two that are written reduced
+-- by many exponents, the longest closing, and words that come back as they were. Assumes nothing.
 use mathlib.Core.Path.{_≡_}
 use mathlib.Core.Bool.{Bool, true, _&&_}
 use mathlib.Core.List.{List, [], _∷_}
@@ -44,8 +44,10 @@ cases =
     ∷ row 0 1 nil one (T′ ∷ X ∷ S ∷ S ∷ S ∷ W ∷ W ∷ W ∷ W ∷ W ∷ W ∷ W ∷ []) 0
     ∷ row 1 2 (quad (pos 0) (pos 0) (pos 1) (pos 0)) (quad (negsuc 0) (pos 0) (pos 0) (pos 0)) (S ∷ H ∷ X ∷ S ∷ S ∷ S ∷ W ∷ []) 1
     ∷ row 2 2 (quad (pos 0) (pos 0) (pos 1) (pos 1)) (quad (pos 0) (pos 0) (negsuc 0) (pos 1)) (H ∷ T′ ∷ H ∷ T′ ∷ []) 2
-    ∷ row 3 0 (quad (pos 0) (pos 0) (pos 1) (negsuc 0)) (quad (negsuc 0) (pos 1) (pos 0) (pos 2)) (S ∷ H ∷ T′ ∷ H ∷ T′ ∷ S ∷ H ∷ T′ ∷ H ∷ T′ ∷ X ∷ S ∷ W ∷ []) 4
-    ∷ row 3 7 (quad (pos 1) (pos 1) (pos 1) (pos 0)) (quad (pos 2) (pos 0) (pos 0) (pos 1)) (H ∷ T′ ∷ S ∷ H ∷ T′ ∷ H ∷ T′ ∷ H ∷ T′ ∷ S ∷ H ∷ T′ ∷ X ∷ S ∷ S ∷ W ∷ []) 5
+    ∷ row 3 0 (quad (pos 0) (pos 0) (pos 1) (negsuc 0)) (quad (negsuc 0) (pos 1) (pos 0) (pos 2))
+    (S ∷ H ∷ T′ ∷ H ∷ T′ ∷ S ∷ H ∷ T′ ∷ H ∷ T′ ∷ X ∷ S ∷ W ∷ []) 4
+    ∷ row 3 7 (quad (pos 1) (pos 1) (pos 1) (pos 0)) (quad (pos 2) (pos 0) (pos 0) (pos 1))
+    (H ∷ T′ ∷ S ∷ H ∷ T′ ∷ H ∷ T′ ∷ H ∷ T′ ∷ S ∷ H ∷ T′ ∷ X ∷ S ∷ S ∷ W ∷ []) 5
     ∷ []
 
 abbrev rowTest : Row → Bool
@@ -66,9 +68,11 @@ Each (r ∷ rs) = Spelled r × Each rs
 each : (rs : List Row) → T (every rs) → Each rs
 each [] t = tt
 each (r ∷ rs) t =
+    let u = letters (reduce (r .triple)) in
+    let n = steps (reduce (r .triple)) in
     let s = and-yes (rowTest r) (every rs) t in
-    let p = and-yes (eqWord (letters (reduce (r .triple))) (r .spelled)) (eqb (steps (reduce (r .triple))) (r .in-steps)) (s .0) in
-    (record { letters-are = eqWord-is (letters (reduce (r .triple))) (r .spelled) (p .0); steps-are = eqb→eq (steps (reduce (r .triple))) (r .in-steps) (p .1) }, each rs (s .1))
+    let p = and-yes (eqWord u (r .spelled)) (eqb n (r .in-steps)) (s .0) in
+    (record { letters-are = eqWord-is u (r .spelled) (p .0); steps-are = eqb→eq n (r .in-steps) (p .1) }, each rs (s .1))
 
 pub all-cases : Each cases
 unfolding cases letters steps gathered next powerBy fallsBy back closing

@@ -1,5 +1,5 @@
--- The end of synthesis, k = 0: z or w is a power of omega and the other is 0, and the triple is spelled by at most one T, at most one X, S at most
--- 3 times and W at most 7 times. Assumes nothing.
+-- The end of synthesis, k = 0: z or w is a power of omega and the other is 0, and the triple is spelled by at most one T, at most one X,
+-- S at most 3 times and W at most 7 times. Assumes nothing.
 use mathlib.Core.Path.{_≡_, refl, sym, _∙_, ap, ap₂}
 use mathlib.Core.Bool.{Bool, true, false, cond, _&&_}
 use mathlib.Core.List.{List, [], _∷_, _++_}
@@ -48,8 +48,12 @@ phase t = which (unitOf t)
 abbrev pub quarters : Triple → ℕ
 quarters t = (t .n + 4 * swaps t + 16 - (lead t + 2 * phase t)) % 8 / 2
 
+-- T, X, S and W, each so many times
+abbrev pub spell : ℕ → ℕ → ℕ → ℕ → List Letter
+spell p q s m = times p T′ ++ (times q X ++ (times s S ++ times m W))
+
 unfoldable pub closing : Triple → List Letter
-closing t = times (lead t) T′ ++ (times (swaps t) X ++ (times (quarters t) S ++ times (phase t) W))
+closing t = spell (lead t) (swaps t) (quarters t) (phase t)
 
 -- ---- a sum of squares that is 0, and one that is 1
 abbrev sq : ℤ → ℕ
@@ -128,7 +132,12 @@ pub power-which : {x : Ω} → Power x → x ≡ omega^ (which x)
 power-which {x} p = p .is ∙ sym (ap omega^ (ap which (p .is) ∙ which-omega^ (p .exponent)) ∙ sym (omega^-mod (p .exponent)))
 
 nothing-of : (x : Ω) → sqs x ≡ 0 → x ≡ constQ ints (pos 0)
-nothing-of x e = quad-path (nil-of (x .a) (omega arith)) (nil-of (x .b) (omega arith)) (nil-of (x .c) (omega arith)) (nil-of (x .d) (omega arith))
+nothing-of x e =
+    quad-path
+    (nil-of (x .a) (omega arith))
+    (nil-of (x .b) (omega arith))
+    (nil-of (x .c) (omega arith))
+    (nil-of (x .d) (omega arith))
 
 zero-is : (x : Ω) → isZero x ≡ true → x ≡ constQ ints (pos 0)
 zero-is x e =
@@ -188,10 +197,16 @@ ss-flat (suc s) m n = ap (act S) (ss-flat s m n) ∙ ap (flat m) more
     more : n + 2 * s + 2 ≡ n + 2 * suc s
     more = omega arith
 
-spelled : (p q s m : ℕ) → tripleOf (times p T′ ++ (times q X ++ (times s S ++ times m W))) ≡ actAll (times p T′) (actAll (times q X) (flat m (2 * m + 2 * s)))
+abbrev shaped : ℕ → ℕ → ℕ → ℕ → Triple
+shaped p q s m = actAll (times p T′) (actAll (times q X) (flat m (2 * m + 2 * s)))
+
+spelled : (p q s m : ℕ) → tripleOf (spell p q s m) ≡ shaped p q s m
 spelled p q s m =
     act-append (times p T′) (times q X ++ (times s S ++ times m W))
-    ∙ ap (actAll (times p T′)) (act-append (times q X) (times s S ++ times m W) ∙ ap (actAll (times q X)) (act-append (times s S) (times m W) ∙ ap (actAll (times s S)) (ws-flat m) ∙ ss-flat s m (2 * m)))
+    ∙ ap (actAll (times p T′)) (act-append (times q X) (times s S ++ times m W) ∙ ap (actAll (times q X)) after-x)
+  where
+    after-x : tripleOf (times s S ++ times m W) ≡ flat m (2 * m + 2 * s)
+    after-x = act-append (times s S) (times m W) ∙ ap (actAll (times s S)) (ws-flat m) ∙ ss-flat s m (2 * m)
 
 -- ---- the theorem
 mod-8 : (a b x y : ℕ) → a + 8 * x ≡ b + 8 * y → a % 8 ≡ b % 8
@@ -246,25 +261,25 @@ data Left (t : Triple) (p q m : ℕ) : Type 0 where
   swapped-left : q ≡ 1 → t .z ≡ constQ ints (pos 0) → t .w ≡ mulQ ints (omega^ p) (omega^ m) → Left t p q m
 
 module _ (t : Triple) (p q s m : ℕ) (e : t .k ≡ 0) where
-  spelled-is : Left t p q m → actAll (times p T′) (actAll (times q X) (flat m (2 * m + 2 * s))) ≡ at-n t (2 * m + 2 * s + 4 * q + p)
+  spelled-is : Left t p q m → shaped p q s m ≡ at-n t (2 * m + 2 * s + 4 * q + p)
   spelled-is (flat-left f z w) =
-      ap (λ q. actAll (times p T′) (actAll (times q X) (flat m (2 * m + 2 * s)))) f
+      ap (λ q. shaped p q s m) f
       ∙ turned p (flat m (2 * m + 2 * s))
       ∙ (λ i. record { k = sym e i; n = n-is i; z = sym z i; w = (nothing-times (omega^ p) ∙ sym w) i })
     where
       n-is : 2 * m + 2 * s + p ≡ 2 * m + 2 * s + 4 * q + p
       n-is = omega arith
   spelled-is (swapped-left f z w) =
-      ap (λ q. actAll (times p T′) (actAll (times q X) (flat m (2 * m + 2 * s)))) f
+      ap (λ q. shaped p q s m) f
       ∙ turned p (act X (flat m (2 * m + 2 * s)))
       ∙ (λ i. record { k = sym e i; n = n-is i; z = sym z i; w = sym w i })
     where
       n-is : 2 * m + 2 * s + 4 + p ≡ 2 * m + 2 * s + 4 * q + p
       n-is = omega arith
 
-  finish : p ≡ t .n % 2 → m < 8 → s ≡ (t .n + 4 * q + 16 - (p + 2 * m)) % 8 / 2 → Left t p q m → word (times p T′ ++ (times q X ++ (times s S ++ times m W))) ≡ entries t
+  finish : p ≡ t .n % 2 → m < 8 → s ≡ (t .n + 4 * q + 16 - (p + 2 * m)) % 8 / 2 → Left t p q m → word (spell p q s m) ≡ entries t
   finish hp hm hs l =
-      sym (word-triple (times p T′ ++ (times q X ++ (times s S ++ times m W))))
+      sym (word-triple (spell p q s m))
       ∙ ap entries (spelled p q s m ∙ spelled-is l)
       ∙ n-same t (2 * m + 2 * s + 4 * q + p) (closed (t .n) p q m s hp hm hs)
 
@@ -285,10 +300,13 @@ left-over t (diagonal f h w) = flat-left (ap (λ b. cond b 1 0) f) (power-which 
     unit-is = ap (λ b. cond b (back (lead t) (t .w)) (t .z)) f
 left-over t (swapped f z h) =
     swapped-left (ap (λ b. cond b 1 0) f) z
-    (sym (back-forth (lead t) (t .w) (omega arith)) ∙ ap (mulQ ints (omega^ (lead t))) (power-which (back-power (lead t) h) ∙ ap (λ x. omega^ (which x)) (sym unit-is)))
+    (sym (back-forth (lead t) (t .w) (omega arith)) ∙ ap (mulQ ints (omega^ (lead t))) is-power)
   where
     unit-is : unitOf t ≡ back (lead t) (t .w)
     unit-is = ap (λ b. cond b (back (lead t) (t .w)) (t .z)) f
+
+    is-power : back (lead t) (t .w) ≡ omega^ (phase t)
+    is-power = power-which (back-power (lead t) h) ∙ ap (λ x. omega^ (which x)) (sym unit-is)
 
 pub closing-is : (t : Triple) → Unitary t → t .k ≡ 0 → word (closing t) ≡ entries t
 unfolding closing
@@ -320,32 +338,5 @@ pub closing-tees : (t : Triple) → tees (closing t) ≡ lead t
 unfolding closing
 closing-tees t = go (lead t) (swaps t) (quarters t) (phase t)
   where
-    go : (p q s m : ℕ) → tees (times p T′ ++ (times q X ++ (times s S ++ times m W))) ≡ p
+    go : (p q s m : ℕ) → tees (spell p q s m) ≡ p
     go p q s m = simp tees-append (omega (arith, times-tees p, none-tees X refl q, none-tees S refl s, none-tees W refl m))
-
--- ---- as the code takes it
--- m is the power that equals the number that is left
-pub which-at : (m : ℕ) → m < 8 → which (omega^ m) ≡ m
-which-at m h = which-omega^ m ∙ small
-  where
-    small : m % 8 ≡ m
-    small = omega arith
-
-pub quarters-few : (t : Triple) → quarters t < 4
-quarters-few t = omega arith
-
--- n with each letter taken off modulo 8: 7 more for the T, 4 more for the X, 2·(8-m) more for the W
-pub quarters-by : (n p q m : ℕ) → p ≡ n % 2 → m < 8 → (((n + 7 * p) % 8 + 4 * q) % 8 + 2 * (8 - m)) % 8 / 2 ≡ (n + 4 * q + 16 - (p + 2 * m)) % 8 / 2
-quarters-by n p q m e h = ap (λ x. x / 2) (mod-8 ((a + 4 * q) % 8 + 2 * (8 - m)) (n + 4 * q + 16 - (p + 2 * m)) (b / 8 + (n + 7 * p) / 8) p (omega (arith, part-a, part-b)))
-  where
-    a : ℕ
-    a = (n + 7 * p) % 8
-
-    b : ℕ
-    b = a + 4 * q
-
-    part-a : a + 8 * ((n + 7 * p) / 8) ≡ n + 7 * p
-    part-a = omega arith
-
-    part-b : b % 8 + 8 * (b / 8) ≡ b
-    part-b = omega arith

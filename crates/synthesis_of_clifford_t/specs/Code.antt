@@ -5,7 +5,7 @@ use Prim.Native.Nat.{ℕ, zero, suc, _+_, _-_, _/_, _%_, _^_, _≤_, _<_}
 use native.Mathlib.Omega.{arith}
 use lib.Dec.{T}
 use mir.Facts.{and-yes}
-use Rattle.exact.specs.Meaning.Number.{Ω, ints, negQ, mulQ, omega′, omega^, odd, bit, residue, Sized}
+use Rattle.exact.specs.Meaning.Number.{Ω, ints, addQ, negQ, mulQ, omega′, omega^, odd, bit, residue, Sized}
 use Rattle.exact.specs.Meaning.Word.{H}
 use Rattle.exact.specs.Meaning.Triple.{Triple}
 use Rattle.exact.specs.Meaning.Limits.{deepest}
@@ -20,8 +20,9 @@ use Rattle.unitary.specs.Triples.{triple}
 use Rattle.unitary.specs.Acts.{Good, Both, turnedBack, halved}
 use Rattle.synthesis_of_clifford_t.specs.declared.Reduction as declared
 use Rattle.synthesis_of_clifford_t.specs.declared.Reduction.the-variants as variants
-use Rattle.synthesis_of_clifford_t.specs.Residues.{back}
-use Rattle.synthesis_of_clifford_t.specs.Step.{Ready, Reduction, Ended, Stepped, reduction, power, falls, next, explicit, fallen, over-over, falls-once, next-falls, next-stays}
+use Rattle.synthesis_of_clifford_t.specs.Residues.{back, powerBy, fallsBy, powerBy-few}
+use Rattle.synthesis_of_clifford_t.specs.Step.{Ready, Reduction, Ended, Stepped, reduction, power, falls, next}
+use Rattle.synthesis_of_clifford_t.specs.Step.{explicit, fallen, over-over, falls-once, next-falls, next-stays}
 use Rattle.synthesis_of_clifford_t.specs.Synthesised.{reduction-stepped}
 
 -- a reduction's answer as the definition has it
@@ -29,12 +30,15 @@ abbrev pub answerOf : declared.Reduction → Reduction
 answerOf (variants.Step m t) = Stepped m (triple t)
 answerOf variants.Ended = Ended
 
-pub residue-few : (x : Ω) → residue x < 16
-residue-few x = omega (arith, few (odd (x .a)), few (odd (x .b)), few (odd (x .c)), few (odd (x .d)))
+pub residue-few : {r : ℕ} (x : Ω) → r ≡ residue x → r < 16
+residue-few x e = omega (arith, few (odd (x .a)), few (odd (x .b)), few (odd (x .c)), few (odd (x .d)))
   where
     few : (b : Bool) → bit b ≤ 1
     few true = omega arith
     few false = omega arith
+
+pub power-fits : (m p q : ℕ) → m ≡ powerBy p q → m < 4
+power-fits m p q e = omega (arith, powerBy-few p q)
 
 pub good-ready : {t : DOmegaUnitary} → Good t → Ready (triple t)
 good-ready g = record { unitary = g .unitary; reduced = g .reduced }
@@ -42,7 +46,8 @@ good-ready g = record { unitary = g .unitary; reduced = g .reduced }
 -- ---- sizes
 power-sized : (n j : ℕ) (x : Ω) → Sized n x → Sized n (mulQ ints (omega^ j) x)
 power-sized n zero x s = rw (omegas-laws .one-mul x) s
-power-sized n (suc j) x s = rw (omegas-laws .mul-assoc (omega′ ints) (omega^ j) x) (omega-sized n (mulQ ints (omega^ j) x) (power-sized n j x s))
+power-sized n (suc j) x s =
+    rw (omegas-laws .mul-assoc (omega′ ints) (omega^ j) x) (omega-sized n (mulQ ints (omega^ j) x) (power-sized n j x s))
 
 -- omega^-m·w is as small as w
 pub small-turned : {x r : Ω} (n j : ℕ) → Sized n x → r ≡ mulQ ints (omega^ j) x → Sized n r
@@ -55,67 +60,102 @@ n-again a = omega (arith, quotients)
     quotients = omega arith
 
 -- ---- H·T^-m from the left: r after T^-m, s after H
-module _ (t : DOmegaUnitary) (g : Good t) (h : t .k ≤ deepest) (m : ℕ) (r : DOmegaUnitary) (e : triple r ≡ modEight (turnedBack m (triple t))) where
-  z-in : Sized (2 ^ 30) (quad (r .z))
-  z-in = rw (ap (λ u. u .z) e) (z-sized (g .unitary) 30 h)
+module _ (t : DOmegaUnitary) (g : Good t) (h : t .k ≤ deepest) (m : ℕ) where
+  module _ (r : DOmegaUnitary) (e : triple r ≡ modEight (turnedBack m (triple t))) where
+    z-in : Sized (2 ^ 30) (quad (r .z))
+    z-in = rw (ap (λ u. u .z) e) (z-sized (g .unitary) 30 h)
 
-  w-in : Sized (2 ^ 30) (quad (r .w))
-  w-in = small-turned (2 ^ 30) (8 - m) (w-sized (g .unitary) 30 h) (ap (λ u. u .w) e)
+    w-in : Sized (2 ^ 30) (quad (r .w))
+    w-in = small-turned (2 ^ 30) (8 - m) (w-sized (g .unitary) 30 h) (ap (λ u. u .w) e)
 
-  pub turned-small : Small (r .z) × (Small (r .w) × ((r .n < 8) × (r .k < 255)))
-  turned-small = (record { sized = sized-le (omega arith) z-in }, (record { sized = sized-le (omega arith) w-in }, (omega (arith, ap (λ u. u .n) e), omega (arith, ap (λ u. u .k) e))))
+    pub turned-z : Small (r .z)
+    turned-z = record { sized = sized-le (omega arith) z-in }
 
-  module _ (s : DOmegaUnitary) (f : triple s ≡ modEight (act H (triple r))) where
-    pub raised-small : Small (s .z) × Small (s .w)
-    raised-small = (
-      record { sized = rw (ap (λ u. u .z) f) (sized-le (omega arith) (add-sized (2 ^ 30) (2 ^ 30) (quad (r .z)) (quad (r .w)) z-in w-in)) },
-      record { sized = rw (ap (λ u. u .w) f) (sized-le (omega arith) (add-sized (2 ^ 30) (2 ^ 30) (quad (r .z)) (negQ ints (quad (r .w))) z-in (neg-sized (2 ^ 30) (quad (r .w)) w-in))) },
-    )
+    pub turned-w : Small (r .w)
+    turned-w = record { sized = sized-le (omega arith) w-in }
 
-    pub raised-k : s .k ≡ suc (t .k)
-    raised-k = ap (λ u. u .k) f ∙ ap (λ u. suc (u .k)) e
+    pub turned-n : r .n < 8
+    turned-n = omega (arith, ap (λ u. u .n) e)
 
-    raised-is : triple s ≡ modEight (explicit m (triple t))
-    unfolding back
-    raised-is =
-        f
-        ∙ ap (λ u. modEight (act H u)) e
-        ∙ (λ i. record { k = suc (t .k); n = n-again (t .n + (8 - m)) i; z = explicit m (triple t) .z; w = explicit m (triple t) .w })
+    pub turned-k : r .k < 255
+    turned-k = omega (arith, ap (λ u. u .k) e)
 
-    -- ---- what the step answers
-    module _ (m-is : m ≡ power (triple t)) (some : t .k ≡ 0 → ⊥) where
-      k-is : t .k ≡ suc (t .k - 1)
-      k-is = omega (arith, some)
-
-      is : triple s ≡ modEight (explicit (power (triple t)) (triple t))
-      is = raised-is ∙ ap (λ j. modEight (explicit j (triple t))) m-is
-
-      stepped : (v : DOmegaUnitary) → triple v ≡ next (triple t) → Stepped m (triple v) ≡ reduction (triple t)
-      stepped v q = ap₂ Stepped m-is q ∙ sym (reduction-stepped (triple t) (t .k - 1) k-is)
-
-      -- k falls: halved
-      pub step-falls : falls (triple t) ≡ true → (v : DOmegaUnitary) → triple v ≡ halved (triple s) → Stepped m (triple v) ≡ reduction (triple t)
-      step-falls b v q = stepped v (q ∙ ap halved is ∙ parts ∙ sym (next-falls (triple t) (t .k - 1) (good-ready g) k-is b))
+    module _ (s : DOmegaUnitary) (f : triple s ≡ modEight (act H (triple r))) where
+      pub raised-z : Small (s .z)
+      raised-z = record { sized = rw (ap (λ u. u .z) f) (sized-le (omega arith) sum) }
         where
-          x : Triple
-          x = explicit (power (triple t)) (triple t)
+          sum : Sized (2 ^ 30 + 2 ^ 30) (addQ ints (quad (r .z)) (quad (r .w)))
+          sum = add-sized (2 ^ 30) (2 ^ 30) (quad (r .z)) (quad (r .w)) z-in w-in
 
-          once : T (divides (x .z)) × T (divides (x .w))
-          once = and-yes (divides (x .z)) (divides (x .w)) (falls-once (triple t) (t .k - 1) (good-ready g) k-is b)
-
-          lower : suc (t .k) - 2 ≡ t .k - 1
-          lower = omega arith
-
-          parts : halved (modEight x) ≡ fallen (t .k - 1) (triple t)
-          parts = λ i. record { k = lower i; n = x .n % 8; z = sym (over-over (x .z) (once .0)) i; w = sym (over-over (x .w) (once .1)) i }
-
-      -- k stays: divided once
-      pub step-stays : falls (triple t) ≡ false → (v : DOmegaUnitary) → Both (λ k. triple v ≡ lowered k (triple s)) (s .k) → Stepped m (triple v) ≡ reduction (triple t)
-      step-stays b v q =
-          stepped v
-          (q .holds
-          ∙ ap₂ lowered back-to is
-          ∙ sym (next-stays (triple t) (t .k - 1) (good-ready g) k-is b))
+      pub raised-w : Small (s .w)
+      raised-w = record { sized = rw (ap (λ u. u .w) f) (sized-le (omega arith) difference) }
         where
-          back-to : q .before ≡ t .k
-          back-to = omega (arith, q .is, raised-k)
+          less : Ω
+          less = negQ ints (quad (r .w))
+
+          difference : Sized (2 ^ 30 + 2 ^ 30) (addQ ints (quad (r .z)) less)
+          difference = add-sized (2 ^ 30) (2 ^ 30) (quad (r .z)) less z-in (neg-sized (2 ^ 30) (quad (r .w)) w-in)
+
+      raised-k : s .k ≡ suc (t .k)
+      raised-k = ap (λ u. u .k) f ∙ ap (λ u. suc (u .k)) e
+
+      pub raised-over-0 : 0 < s .k
+      raised-over-0 = omega (arith, raised-k)
+
+      pub raised-over-1 : (t .k ≡ 0 → ⊥) → 1 < s .k
+      raised-over-1 some = omega (arith, raised-k, some)
+
+      raised-is : triple s ≡ modEight (explicit m (triple t))
+      unfolding back
+      raised-is =
+          f
+          ∙ ap (λ u. modEight (act H u)) e
+          ∙ (λ i. record { k = suc (t .k); n = n-again (t .n + (8 - m)) i; z = explicit m (triple t) .z; w = explicit m (triple t) .w })
+
+      -- ---- what the step answers: p and q are the residues, b whether k falls
+      module _ (some : t .k ≡ 0 → ⊥) (p q : ℕ) (p-is : p ≡ residue (quad (t .z))) (q-is : q ≡ residue (quad (t .w))) where
+        module _ (m-by : m ≡ powerBy p q) (b : Bool) (b-is : b ≡ fallsBy p q) (v : DOmegaUnitary) where
+          k-is : t .k ≡ suc (t .k - 1)
+          k-is = omega (arith, some)
+
+          m-is : m ≡ power (triple t)
+          m-is = m-by ∙ ap₂ powerBy p-is q-is
+
+          falls-is : falls (triple t) ≡ b
+          falls-is = sym (b-is ∙ ap₂ fallsBy p-is q-is)
+
+          is : triple s ≡ modEight (explicit (power (triple t)) (triple t))
+          is = raised-is ∙ ap (λ j. modEight (explicit j (triple t))) m-is
+
+          stepped : triple v ≡ next (triple t) → Stepped m (triple v) ≡ reduction (triple t)
+          stepped h = ap₂ Stepped m-is h ∙ sym (reduction-stepped (triple t) (t .k - 1) k-is)
+
+          -- k falls: halved
+          pub step-falls : b ≡ true → triple v ≡ halved (triple s) → Stepped m (triple v) ≡ reduction (triple t)
+          step-falls down v-is =
+              stepped (v-is ∙ ap halved is ∙ parts ∙ sym (next-falls (triple t) (t .k - 1) (good-ready g) k-is (falls-is ∙ down)))
+            where
+              x : Triple
+              x = explicit (power (triple t)) (triple t)
+
+              once : T (divides (x .z)) × T (divides (x .w))
+              once = and-yes (divides (x .z)) (divides (x .w)) (falls-once (triple t) (t .k - 1) (good-ready g) k-is (falls-is ∙ down))
+
+              lower : suc (t .k) - 2 ≡ t .k - 1
+              lower = omega arith
+
+              parts : halved (modEight x) ≡ fallen (t .k - 1) (triple t)
+              parts = λ i. record {
+                k = lower i;
+                n = x .n % 8;
+                z = sym (over-over (x .z) (once .0)) i;
+                w = sym (over-over (x .w) (once .1)) i;
+              }
+
+          -- k stays: divided once
+          pub step-stays : b ≡ false → Both (λ k. triple v ≡ lowered k (triple s)) (s .k) → Stepped m (triple v) ≡ reduction (triple t)
+          step-stays same v-is =
+              stepped (v-is .holds ∙ ap₂ lowered back-to is ∙ sym (next-stays (triple t) (t .k - 1) (good-ready g) k-is (falls-is ∙ same)))
+            where
+              back-to : v-is .before ≡ t .k
+              back-to = omega (arith, v-is .is, raised-k)

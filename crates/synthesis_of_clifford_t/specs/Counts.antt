@@ -1,6 +1,6 @@
--- How many letters: before normalising at most 6k+12 of H, S, X, W and T, of which at most 2k+1 are T; and a normal word with that matrix has at most
--- 6k+16. Assumes nothing.
-use mathlib.Core.Path.{ap}
+-- How many letters: before normalising at most 6k+12 of H, S, X, W and T, of which at most 2k+1 are T; and a normal word with that matrix
+-- has at most 6k+16. Assumes nothing.
+use mathlib.Core.Path.{_≡_, _∙_, ap}
 use mathlib.Core.Bool.{Bool, true, false}
 use mathlib.Core.List.{List, [], _∷_, _++_}
 use Prim.Native.Nat.{ℕ, zero, suc, _+_, _*_, _≤_}
@@ -9,15 +9,18 @@ use lib.Dec.{T}
 use lib.ListN.{length, length-append}
 use Rattle.exact.specs.Meaning.Matrix.{Same}
 use Rattle.exact.specs.Meaning.Word.{Letter, S, X, W, T′, word, tees, job3}
-use Rattle.exact.specs.Meaning.Normal.{Syllable, HT, SHT, Front, nothing, onlyH, onlySH, Tail, times, frontWord, tailWord, orI, after, leading, Fits, Normal}
+use Rattle.exact.specs.Meaning.Normal.{Syllable, HT, SHT, Front, nothing, onlyH, onlySH, Tail, Fits, Normal}
+use Rattle.exact.specs.Meaning.Normal.{times, frontWord, tailWord, orI, after, leading}
 use Rattle.exact.specs.Meaning.Triple.{Triple, entries}
 use Rattle.exact.specs.Meaning.Limits.{deepest, enough}
 use Rattle.exact.specs.Matrices.Same.{Same-sym, Same-trans}
 use Rattle.exact.specs.Unique.Tails.{tees-append}
 use Rattle.exact.specs.Unique.Normal.{normal-fewest}
 use Rattle.synthesis_of_clifford_t.specs.Step.{Ready, block, power, next}
-use Rattle.synthesis_of_clifford_t.specs.Closing.{closing, lead, swaps, quarters, phase, closing-length, closing-tees, length-times}
-use Rattle.synthesis_of_clifford_t.specs.Steps.{letters, steps, by-steps, letters-end, letters-more, letters-same, steps-more, steps-few}
+use Rattle.synthesis_of_clifford_t.specs.Closing.{closing, spell, lead, swaps, quarters, phase}
+use Rattle.synthesis_of_clifford_t.specs.Closing.{closing-length, closing-tees, length-times}
+use Rattle.synthesis_of_clifford_t.specs.Steps.{letters, letters-end, letters-more, letters-same}
+use Rattle.synthesis_of_clifford_t.specs.Steps.{steps, by-steps, steps-more, steps-few}
 
 -- ---- before normalising
 pub block-length : (m : ℕ) → (1 ≤ length (block m)) × (length (block m) ≤ 3)
@@ -32,11 +35,19 @@ block-tees (suc zero) = omega arith
 block-tees (suc (suc zero)) = omega arith
 block-tees (suc (suc (suc m))) = omega arith
 
+-- one step's letters and the rest's
+module _ (t : Triple) (k : ℕ) (r : Ready t) (e : t .k ≡ suc k) where
+  more-length : length (letters t) ≡ length (block (power t)) + length (letters (next t))
+  more-length = ap length (letters-more t k r e) ∙ length-append (block (power t)) (letters (next t))
+
+  more-tees : tees (letters t) ≡ tees (block (power t)) + tees (letters (next t))
+  more-tees = ap tees (letters-more t k r e) ∙ tees-append (block (power t)) (letters (next t))
+
 pub letters-steps : (t : Triple) → Ready t → length (letters t) ≤ 3 * steps t + 12
 letters-steps =
     by-steps (λ t. length (letters t) ≤ 3 * steps t + 12)
     (λ t r e. omega (arith, ap length (letters-end t e), closing-length t (r .unitary) e))
-    (λ t k r e h. omega (arith, ap length (letters-more t k r e), length-append (block (power t)) (letters (next t)), block-length (power t) .1, steps-more t k r e))
+    (λ t k r e h. omega (arith, more-length t k r e, block-length (power t) .1, steps-more t k r e))
 
 pub letters-length : (t : Triple) → Ready t → length (letters t) ≤ 6 * t .k + 12
 letters-length t r = omega (arith, letters-steps t r, steps-few t r)
@@ -48,7 +59,7 @@ letters-tees t r = omega (arith, by-step t r, steps-few t r)
     by-step =
         by-steps (λ t. tees (letters t) ≤ steps t + 1)
         (λ t r e. omega (arith, ap tees (letters-end t e), closing-tees t))
-        (λ t k r e h. omega (arith, ap tees (letters-more t k r e), tees-append (block (power t)) (letters (next t)), block-tees (power t), steps-more t k r e))
+        (λ t k r e h. omega (arith, more-tees t k r e, block-tees (power t), steps-more t k r e))
 
 -- ---- the letters are those of job 3
 abbrev pub Plain : List Letter → Type 0
@@ -73,10 +84,11 @@ pub closing-plain : (t : Triple) → Plain (closing t)
 unfolding closing
 closing-plain t = go (lead t) (swaps t) (quarters t) (phase t)
   where
-    go : (p q s m : ℕ) → Plain (times p T′ ++ (times q X ++ (times s S ++ times m W)))
+    go : (p q s m : ℕ) → Plain (spell p q s m)
     go p q s m =
         plain-append (times p T′) (times q X ++ (times s S ++ times m W)) (plain-times p T′ tt)
-        (plain-append (times q X) (times s S ++ times m W) (plain-times q X tt) (plain-append (times s S) (times m W) (plain-times s S tt) (plain-times m W tt)))
+        (plain-append (times q X) (times s S ++ times m W) (plain-times q X tt)
+        (plain-append (times s S) (times m W) (plain-times s S tt) (plain-times m W tt)))
 
 pub letters-plain : (t : Triple) → Ready t → Plain (letters t)
 letters-plain =
@@ -107,7 +119,16 @@ leading-length true u h = omega arith
 leading-length false u h = h
 
 pub normal-length : {v : List Letter} → Normal v → length v ≤ 3 * tees v + 13
-normal-length {v} n = rw (n .spelled) at (leading-length (n .shape .lead) (after (n .shape .syllables) (orI (tailWord (n .shape .tail)))) (after-length (n .shape .syllables) (orI (tailWord (n .shape .tail))) (tail-length (n .shape .tail) (n .fits))))
+normal-length {v} n = rw (n .spelled) at (leading-length (n .shape .lead) (after ss end) after-lead)
+  where
+    ss : List Syllable
+    ss = n .shape .syllables
+
+    end : List Letter
+    end = orI (tailWord (n .shape .tail))
+
+    after-lead : length (after ss end) ≤ 3 * tees (after ss end) + 13
+    after-lead = after-length ss end (tail-length (n .shape .tail) (n .fits))
 
 -- ---- the answer
 pub answer-length : (t : Triple) (v : List Letter) → Ready t → Normal v → Same (word v) (entries t) → length v ≤ 6 * t .k + 16

@@ -1,5 +1,5 @@
--- What a loop over the steps keeps, from a reduced unitary triple s to the present one t with the letters u written in i steps: u and t's letters are
--- s's letters, the steps add up, and three letters' room is left for each step that may come. Assumes nothing.
+-- What a loop over the steps keeps, from a reduced unitary triple s to the present one t with the letters u written in i steps: u and t's
+-- letters are s's letters, the steps add up, and three letters' room is left for each step that may come. Assumes nothing.
 use mathlib.Core.Path.{_≡_, refl, sym, _∙_, ap}
 use mathlib.Core.List.{List, [], _++_, append-assoc}
 use Prim.Native.Nat.{ℕ, suc, _+_, _*_, _≤_, _<_}
@@ -10,7 +10,8 @@ use Rattle.exact.specs.Meaning.Word.{Letter}
 use Rattle.exact.specs.Meaning.Triple.{Triple}
 use Rattle.synthesis_of_clifford_t.specs.Step.{Ready, block, power, next, next-ready, next-n}
 use Rattle.synthesis_of_clifford_t.specs.Closing.{closing, closing-length}
-use Rattle.synthesis_of_clifford_t.specs.Steps.{left, left-few, left-next, letters, letters-end, letters-more, steps, steps-end, steps-more}
+use Rattle.synthesis_of_clifford_t.specs.Steps.{left, left-few, left-next, letters, letters-end, letters-more}
+use Rattle.synthesis_of_clifford_t.specs.Steps.{steps, steps-end, steps-more}
 use Rattle.synthesis_of_clifford_t.specs.Counts.{block-length}
 
 pub record Progress (s t : Triple) (u : List Letter) (i : ℕ) : Type 0 where
@@ -22,7 +23,14 @@ pub record Progress (s t : Triple) (u : List Letter) (i : ℕ) : Type 0 where
   pub room : length u + 3 * left t ≤ 6 * s .k
 
 pub progress-start : (s : Triple) → Ready s → s .n < 8 → Progress s s [] 0
-progress-start s r n = record { ready = r; n-small = n; k-less = omega arith; kept = refl; counted = zero-add (steps s); room = omega (arith, left-few s .1) }
+progress-start s r n = record {
+  ready = r;
+  n-small = n;
+  k-less = omega arith;
+  kept = refl;
+  counted = zero-add (steps s);
+  room = omega (arith, left-few s .1);
+}
 
 module _ {s t : Triple} {u : List Letter} {i : ℕ} (p : Progress s t u i) where
   -- a step, where k is over 0

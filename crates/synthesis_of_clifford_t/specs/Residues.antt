@@ -1,5 +1,5 @@
--- Residues in a step: document 01's two tables, m by them, and how the parities of z and of omega^-m·w lie then, by one computed test over all 256
--- pairs of residues. Assumes nothing.
+-- Residues in a step: document 01's two tables, m by them, and how the parities of z and of omega^-m·w lie then, by one computed test
+-- over all 256 pairs of residues. Assumes nothing.
 use mathlib.Core.Path.{_≡_, refl, sym, _∙_, ap, ap₂}
 use mathlib.Core.Bool.{Bool, true, false, not, cond, _&&_}
 use mathlib.Core.List.{List, [], _∷_}
@@ -103,7 +103,11 @@ equal-is p q t =
     let t₁ = and-yes (not (xr (p .a) (q .a))) (not (xr (p .b) (q .b)) && (not (xr (p .c) (q .c)) && not (xr (p .d) (q .d)))) t in
     let t₂ = and-yes (not (xr (p .b) (q .b))) (not (xr (p .c) (q .c)) && not (xr (p .d) (q .d))) (t₁ .1) in
     let t₃ = and-yes (not (xr (p .c) (q .c))) (not (xr (p .d) (q .d))) (t₂ .1) in
-    quad-path (same-bool (p .a) (q .a) (t₁ .0)) (same-bool (p .b) (q .b) (t₂ .0)) (same-bool (p .c) (q .c) (t₃ .0)) (same-bool (p .d) (q .d) (t₃ .1))
+    quad-path
+    (same-bool (p .a) (q .a) (t₁ .0))
+    (same-bool (p .b) (q .b) (t₂ .0))
+    (same-bool (p .c) (q .c) (t₃ .0))
+    (same-bool (p .d) (q .d) (t₃ .1))
 
 -- ---- m is below 4
 abbrev allBelow : ℕ → List ℕ → Bool
@@ -188,7 +192,20 @@ abbrev pub fallsOf : Ω → Ω → Bool
 fallsOf z w = fallsBy (residue z) (residue w)
 
 module _ (z w : Ω) (classes : residue (norm z) ≡ residue (norm w)) (some : T (not (divides z && divides w))) where
-  premise : T (eqb (classOf (odds z)) (classOf (odds w)) && not (dividesOf (odds z) && dividesOf (odds w)))
+  -- what the test asks of the pair, and what it finds
+  abbrev asked : Bool
+  asked = eqb (classOf (odds z)) (classOf (odds w)) && not (dividesOf (odds z) && dividesOf (odds w))
+
+  abbrev turned : Quad Bool
+  turned = backOf (powerOf z w) (odds w)
+
+  abbrev class-1 : Bool
+  class-1 = eqb (classOf (odds z)) 0b0001
+
+  abbrev found : Bool → Bool
+  found b = cond b (equal (odds z) turned) (equal (opposite (odds z)) turned && class-1)
+
+  premise : T asked
   premise =
       yes-and (eqb (classOf (odds z)) (classOf (odds w))) (not (dividesOf (odds z) && dividesOf (odds w)))
       (rw (sym (norm-residue z) ∙ classes ∙ norm-residue w) (eqb-refl (classOf (odds w))))
@@ -198,24 +215,26 @@ module _ (z w : Ω) (classes : residue (norm z) ≡ residue (norm w)) (some : T 
   implied true b s t = t
   implied false b s t = absurd s
 
-  chosen : (b : Bool) → fallsOf z w ≡ b → T (cond b (equal (odds z) (backOf (powerOf z w) (odds w))) (equal (opposite (odds z)) (backOf (powerOf z w) (odds w)) && eqb (classOf (odds z)) 0b0001))
+  chosen : (b : Bool) → fallsOf z w ≡ b → T (found b)
   unfolding fallsBy powerBy
-  chosen b e = rw e at (implied (eqb (classOf (odds z)) (classOf (odds w)) && not (dividesOf (odds z) && dividesOf (odds w))) (cond (eqb (bitCount (residueOf (odds z))) (bitCount (residueOf (odds w))))
-      (equal (odds z) (backOf (lessBy (bitShift (residueOf (odds z))) (bitShift (residueOf (odds w)))) (odds w)))
-      (equal (opposite (odds z)) (backOf (lessBy (bitShift (residueOf (odds z))) (bitShift (residueOf (odds w)))) (odds w)) && eqb (classOf (odds z)) 0b0001)) premise (all-pairs (odds z) (odds w)))
+  chosen b e = rw e at (implied asked (found (fallsOf z w)) premise (all-pairs (odds z) (odds w)))
+
+  stayed : fallsOf z w ≡ false → T (equal (opposite (odds z)) turned) × T class-1
+  stayed e = and-yes (equal (opposite (odds z)) turned) class-1 (chosen false e)
+
+  turned-is : turned ≡ odds (back (powerOf z w) w)
+  turned-is = sym (back-odds (powerOf z w) w (powerBy-few (residue z) (residue w)))
 
   -- k falls: the parities agree
   pub agreeing : fallsOf z w ≡ true → odds z ≡ odds (back (powerOf z w) w)
-  agreeing e = equal-is (odds z) (backOf (powerOf z w) (odds w)) (chosen true e) ∙ sym (back-odds (powerOf z w) w (powerBy-few (residue z) (residue w)))
+  agreeing e = equal-is (odds z) turned (chosen true e) ∙ turned-is
 
   -- k stays: each differs, and the class is 0001
   pub differing : fallsOf z w ≡ false → opposite (odds z) ≡ odds (back (powerOf z w) w)
-  differing e =
-      equal-is (opposite (odds z)) (backOf (powerOf z w) (odds w)) (and-yes (equal (opposite (odds z)) (backOf (powerOf z w) (odds w))) (eqb (classOf (odds z)) 0b0001) (chosen false e) .0)
-      ∙ sym (back-odds (powerOf z w) w (powerBy-few (residue z) (residue w)))
+  differing e = equal-is (opposite (odds z)) turned (stayed e .0) ∙ turned-is
 
   pub stays-class : fallsOf z w ≡ false → residue (norm z) ≡ 0b0001
-  stays-class e = norm-residue z ∙ eqb→eq (classOf (odds z)) 0b0001 (and-yes (equal (opposite (odds z)) (backOf (powerOf z w) (odds w))) (eqb (classOf (odds z)) 0b0001) (chosen false e) .1)
+  stays-class e = norm-residue z ∙ eqb→eq (classOf (odds z)) 0b0001 (stayed e .1)
 
 -- ---- at a unitary triple with k over 0 the classes of z and w are one
 -- a class by the parities of the cross sum and of the squares
@@ -223,9 +242,17 @@ abbrev classBy : Bool → Bool → ℕ
 classBy p q = bit p * 8 + 0 * 4 + bit p * 2 + bit q
 
 class-is : (x : Ω) → residue (norm x) ≡ classBy (odd (crosses ints x)) (odd (squares ints x))
-class-is x = ap residue (norm-is x) ∙ ap (λ p. bit p * 8 + 0 * 4 + bit (odd (crosses ints x)) * 2 + bit (odd (squares ints x))) (odd-neg (crosses ints x))
+class-is x = ap residue (norm-is x) ∙ ap (λ p. bit p * 8 + 0 * 4 + bit q * 2 + bit (odd (squares ints x))) (odd-neg (crosses ints x))
+  where
+    q : Bool
+    q = odd (crosses ints x)
 
-pub four-classes : (x : Ω) → (residue (norm x) ≡ 0b0000 → ⊥) → (residue (norm x) ≡ 0b0001 → ⊥) → (residue (norm x) ≡ 0b1010 → ⊥) → (residue (norm x) ≡ 0b1011 → ⊥) → ⊥
+pub four-classes : (x : Ω)
+    → (residue (norm x) ≡ 0b0000 → ⊥)
+    → (residue (norm x) ≡ 0b0001 → ⊥)
+    → (residue (norm x) ≡ 0b1010 → ⊥)
+    → (residue (norm x) ≡ 0b1011 → ⊥)
+    → ⊥
 four-classes x f g h k = go (odd (crosses ints x)) (odd (squares ints x)) (class-is x)
   where
     go : (p q : Bool) → residue (norm x) ≡ classBy p q → ⊥
@@ -265,11 +292,14 @@ class-0000 x e = rw (divides-odds x) (go (classOf (odds x)) (sym (norm-residue x
     go n e t = rw e at t
 
 -- the class 0001 has an odd number of odd coefficients
-odd-total : (q : Quad Bool) → T (implies (eqb (classOf q) 0b0001) (xr (xr (q .b) (q .d)) (xr (q .c) (q .a))))
-odd-total = everywhere-at (λ q. implies (eqb (classOf q) 0b0001) (xr (xr (q .b) (q .d)) (xr (q .c) (q .a)))) tt
+abbrev total : Quad Bool → Bool
+total q = xr (xr (q .b) (q .d)) (xr (q .c) (q .a))
+
+odd-total : (q : Quad Bool) → T (implies (eqb (classOf q) 0b0001) (total q))
+odd-total = everywhere-at (λ q. implies (eqb (classOf q) 0b0001) (total q)) tt
 
 pub class-0001 : (x : Ω) → residue (norm x) ≡ 0b0001 → T (xr (odd (x .b +ℤ x .d)) (odd (x .c +ℤ x .a)))
 class-0001 x e = rw (odd-add (x .b) (x .d), odd-add (x .c) (x .a)) (go (classOf (odds x)) (sym (norm-residue x) ∙ e) (odd-total (odds x)))
   where
-    go : (n : ℕ) → n ≡ 1 → T (implies (eqb n 0b0001) (xr (xr (odd (x .b)) (odd (x .d))) (xr (odd (x .c)) (odd (x .a))))) → T (xr (xr (odd (x .b)) (odd (x .d))) (xr (odd (x .c)) (odd (x .a))))
+    go : (n : ℕ) → n ≡ 1 → T (implies (eqb n 0b0001) (total (odds x))) → T (total (odds x))
     go n e t = rw e at t

@@ -1,5 +1,5 @@
--- One step of synthesis at a reduced unitary triple with k over 0: it writes H, TH, SH or TSH and multiplies the inverse from the left. What was written
--- times the next matrix is the old one; the next triple is reduced and unitary; k falls by one or stays. Assumes nothing.
+-- One step of synthesis at a reduced unitary triple with k over 0: it writes H, TH, SH or TSH and multiplies the inverse from the left.
+-- What was written times the next matrix is the old one; the next triple is reduced and unitary; k falls by one or stays. Assumes nothing.
 use mathlib.Core.Path.{_≡_, refl, sym, _∙_, ap, ap₂}
 use mathlib.Core.Bool.{Bool, true, false, not, _&&_}
 use mathlib.Core.List.{List, [], _∷_, _++_}
@@ -27,7 +27,8 @@ use Rattle.exact.specs.Matrices.Test.{same-by}
 use Rattle.exact.specs.Matrices.Words.{word-append}
 use Rattle.exact.specs.Matrices.Triples.{act, acts, unitary-same, unitary-act}
 use Rattle.exact.specs.Matrices.Least.{reduced-test, lowered, lowered-same, Reduces, reduce, reduce-reduces, answer-unique}
-use Rattle.synthesis_of_clifford_t.specs.Residues.{odds, opposite, back, powerBy-few, powerOf, fallsOf, agreeing, differing, stays-class, one-class, four-classes, class-0000, class-0001}
+use Rattle.synthesis_of_clifford_t.specs.Residues.{odds, opposite, back, powerBy-few, powerOf, fallsOf}
+use Rattle.synthesis_of_clifford_t.specs.Residues.{agreeing, differing, stays-class, one-class, four-classes, class-0000, class-0001}
 
 pub record Ready (t : Triple) : Type 0 where
   pub unitary : Unitary t
@@ -98,8 +99,13 @@ reduction t = elim (t .k) [ zero ↦ Ended | suc k ↦ Stepped (power t) (next t
 pub given-back : (m : ℕ) (t : Triple) (y : Matrix) → m < 4 → Same (entries (actAll (undo m) t)) y → Same (word (block m) · y) (entries t)
 given-back m t y h s =
     Same-trans (Same-mul (Same-refl (word (block m))) (Same-sym s))
-    (Same-trans (Same-of (ap (λ x. word (block m) · x) (acts-all (undo m) t) ∙ sym (mul-assoc (word (block m)) (word (undo m)) (entries t)) ∙ ap (λ x. x · entries t) (sym (word-append (block m) (undo m)))))
-    (Same-trans (Same-mul (block-undo m h) (Same-refl (entries t))) (Same-of (unit-mul (entries t)))))
+    (Same-trans (Same-of one-word) (Same-trans (Same-mul (block-undo m h) (Same-refl (entries t))) (Same-of (unit-mul (entries t)))))
+  where
+    one-word : word (block m) · entries (actAll (undo m) t) ≡ word (block m ++ undo m) · entries t
+    one-word =
+        ap (λ x. word (block m) · x) (acts-all (undo m) t)
+        ∙ sym (mul-assoc (word (block m)) (word (undo m)) (entries t))
+        ∙ ap (λ x. x · entries t) (sym (word-append (block m) (undo m)))
 
 pub next-reduces : (t : Triple) → Reduces (raised t) (next t)
 unfolding next
@@ -109,7 +115,10 @@ pub step-same : (t : Triple) → Same (word (block (power t)) · entries (next t
 step-same t = given-back (power t) t (entries (next t)) (power-few t) (Same-sym (next-reduces t .same))
 
 pub next-ready : {t : Triple} → Unitary t → Ready (next t)
-next-ready {t} u = record { unitary = unitary-same (Same-sym (next-reduces t .same)) (unitary-all (undo (power t)) u); reduced = next-reduces t .reduced }
+next-ready {t} u = record {
+  unitary = unitary-same (Same-sym (next-reduces t .same)) (unitary-all (undo (power t)) u);
+  reduced = next-reduces t .reduced;
+}
 
 pub next-n : (t : Triple) → next t .n < 8
 next-n t = next-reduces t .n-small
@@ -120,7 +129,9 @@ at-most-one m t y h r s = omega (arith, r .least .least (word (block m) · y) (S
 
 -- the next triple is the only one that is reduced, has n below 8 and that matrix
 pub next-by : {t : Triple} (s : Triple) → Unitary t → Reduced s → s .n < 8 → Same (entries s) (entries (raised t)) → next t ≡ s
-next-by {t} s u r n h = answer-unique (next-ready u .unitary) (next-ready u .reduced) r (next-n t) n (Same-trans (next-reduces t .same) (Same-sym h))
+next-by {t} s u r n h =
+    let q : Ready (next t) = next-ready u in
+    answer-unique (q .unitary) (q .reduced) r (next-n t) n (Same-trans (next-reduces t .same) (Same-sym h))
 
 -- ---- H·T^-m in coefficients: z + w' and z - w', where w' is omega^-m·w, with the exponent one up
 abbrev pub explicit : ℕ → Triple → Triple
@@ -143,8 +154,11 @@ undone m t = ap (act H) (turned (8 - m) t)
 abbrev pub every : Bool → Quad Bool
 every b = record { a = b; b = b; c = b; d = b }
 
+abbrev sums : Quad Bool → Quad Bool → Quad Bool
+sums p q = record { a = xr (p .a) (q .a); b = xr (p .b) (q .b); c = xr (p .c) (q .c); d = xr (p .d) (q .d) }
+
 module _ (x y : Ω) where
-  sum-odds : odds (addQ ints x y) ≡ record { a = xr (odd (x .a)) (odd (y .a)); b = xr (odd (x .b)) (odd (y .b)); c = xr (odd (x .c)) (odd (y .c)); d = xr (odd (x .d)) (odd (y .d)) }
+  sum-odds : odds (addQ ints x y) ≡ sums (odds x) (odds y)
   sum-odds = quad-path (odd-add (x .a) (y .a)) (odd-add (x .b) (y .b)) (odd-add (x .c) (y .c)) (odd-add (x .d) (y .d))
 
   difference-odds : odds (addQ ints x (negQ ints y)) ≡ odds (addQ ints x y)
@@ -154,13 +168,13 @@ module _ (x y : Ω) where
   agree-even : odds x ≡ odds y → odds (addQ ints x y) ≡ every false
   agree-even e =
       sum-odds
-      ∙ ap (λ p. record { a = xr (p .a) (odd (y .a)); b = xr (p .b) (odd (y .b)); c = xr (p .c) (odd (y .c)); d = xr (p .d) (odd (y .d)) }) e
+      ∙ ap (λ p. sums p (odds y)) e
       ∙ quad-path (xr-self (odd (y .a))) (xr-self (odd (y .b))) (xr-self (odd (y .c))) (xr-self (odd (y .d)))
 
   differ-odd : opposite (odds x) ≡ odds y → odds (addQ ints x y) ≡ every true
   differ-odd e =
       sum-odds
-      ∙ ap (λ p. record { a = xr (odd (x .a)) (p .a); b = xr (odd (x .b)) (p .b); c = xr (odd (x .c)) (p .c); d = xr (odd (x .d)) (p .d) }) (sym e)
+      ∙ ap (sums (odds x)) (sym e)
       ∙ quad-path (xr-not (odd (x .a))) (xr-not (odd (x .b))) (xr-not (odd (x .c))) (xr-not (odd (x .d)))
     where
       xr-not : (b : Bool) → xr b (not b) ≡ true
@@ -206,12 +220,20 @@ module _ (x : Ω) where
   pub over-over : T (divides x) → over (over x) ≡ record { a = half (x .a); b = half (x .b); c = half (x .c); d = half (x .d) }
   over-over t =
       let s = even-sums x t in
-      quad-path (ap half (half-minus (x .c) (x .a) (s .1))) (ap half (half-plus (x .b) (x .d) (s .0))) (ap half (half-plus (x .c) (x .a) (s .1))) (ap half (half-minus (x .b) (x .d) (s .0)))
+      quad-path
+      (ap half (half-minus (x .c) (x .a) (s .1)))
+      (ap half (half-plus (x .b) (x .d) (s .0)))
+      (ap half (half-plus (x .c) (x .a) (s .1)))
+      (ap half (half-minus (x .b) (x .d) (s .0)))
 
 -- ---- a matrix that can be written two exponents lower has even entries
 module _ (x y : Matrix) (h : Same x y) where
   multiple : (j : ℕ) → x .e ≡ y .e + j → x .m ≡ lifted j (y .m)
-  multiple j e = lifted-cancel (y .e) (x .m) (lifted j (y .m)) (h .same ∙ ap (λ c. scaleM omegas c (y .m)) (ap root2^ e ∙ root2^-add (y .e) j) ∙ scale-scale omegas omegas-laws (root2^ (y .e)) (root2^ j) (y .m))
+  multiple j e =
+      lifted-cancel (y .e) (x .m) (lifted j (y .m))
+      (h .same
+      ∙ ap (λ c. scaleM omegas c (y .m)) (ap root2^ e ∙ root2^-add (y .e) j)
+      ∙ scale-scale omegas omegas-laws (root2^ (y .e)) (root2^ j) (y .m))
 
   pub two-lower : y .e + 2 ≤ x .e → odds (x .m .p) ≡ every false
   two-lower l =
@@ -228,7 +250,9 @@ module _ (x y : Matrix) (h : Same x y) where
       split = omega arith
 
       twice : (v : Ω) → mulQ ints (root2 ints) (mulQ ints (root2 ints) v) ≡ addQ ints v v
-      twice v = solveQ ints ints-laws (parts v []) (mulQ exprs (root2 exprs) (mulQ exprs (root2 exprs) X₀)) (addQ exprs X₀ X₀) (tt, tt, tt, tt)
+      twice v =
+          solveQ ints ints-laws (parts v []) (mulQ exprs (root2 exprs) (mulQ exprs (root2 exprs) X₀)) (addQ exprs X₀ X₀)
+          (tt, tt, tt, tt)
 
 -- ---- n counts modulo 8
 abbrev pub at-n : Triple → ℕ → Triple
@@ -243,11 +267,9 @@ small-same t = n-same t (t .n % 8) twice
     twice : t .n % 8 % 8 ≡ t .n % 8
     twice = omega arith
 
--- ---- the next triple is what reduces H·T^-m in coefficients, n modulo 8
-pub next-from : {t : Triple} (n : ℕ) (r : Triple) → Unitary t → n % 8 ≡ explicit (power t) t .n % 8 → Reduces (at-n (explicit (power t) t) n) r → next t ≡ r
-next-from {t} n r u e h =
-    next-by r u (h .reduced) (h .n-small)
-    (Same-trans (h .same) (Same-of (n-same (explicit (power t) t) n e ∙ ap entries (sym (undone (power t) t)))))
+-- a triple is reduced where no matrix that is its own has a lower exponent
+lowest : (s : Triple) → ((y : Matrix) → Same (entries s) y → s .k ≤ y .e) → Reduced s
+lowest s h = record { least = record { written = entries s .m; same = Same-refl (entries s); least = h } }
 
 -- ---- k falls by one or stays
 abbrev pub fallen : ℕ → Triple → Triple
@@ -322,7 +344,7 @@ module _ (t : Triple) (k : ℕ) (ready : Ready t) (e : t .k ≡ suc k) where
         (Same-trans (lowered-same k (lowered (suc k) x) refl falls-twice) (lowered-same (suc k) x (ap suc e) falls-once))
 
     pub fallen-reduced : Reduced (fallen k t)
-    fallen-reduced = record { least = record { written = entries (fallen k t) .m; same = Same-refl (entries (fallen k t)); least = λ y h. floor y (Same-trans (Same-sym fallen-same) h) } }
+    fallen-reduced = lowest (fallen k t) (λ y h. floor y (Same-trans (Same-sym fallen-same) h))
 
     pub next-falls : next t ≡ fallen k t
     next-falls = next-by (fallen k t) (ready .unitary) fallen-reduced (omega arith) (Same-trans fallen-same (Same-sym x-same))
@@ -341,8 +363,7 @@ module _ (t : Triple) (k : ℕ) (ready : Ready t) (e : t .k ≡ suc k) where
     stayed-same = Same-trans (Same-of (small-same (lowered (t .k) x))) (lowered-same (t .k) x refl stays-once)
 
     pub stayed-reduced : Reduced (stayed t)
-    stayed-reduced =
-        record { least = record { written = entries (stayed t) .m; same = Same-refl (entries (stayed t)); least = λ y h. above y (Same-trans (Same-sym stayed-same) h) } }
+    stayed-reduced = lowest (stayed t) (λ y h. above y (Same-trans (Same-sym stayed-same) h))
       where
         above : (y : Matrix) → Same (entries x) y → t .k ≤ y .e
         above y h = omega (arith, e, clash)
@@ -366,9 +387,14 @@ then-falls t k ready e f = go (falls (next t)) refl
     k-is : s .k ≡ suc k
     k-is = ap (λ r. r .k) is ∙ e
 
+    again : Ready s
+    again = next-ready (ready .unitary)
+
+    class-again : falls s ≡ false → residue (norm (s .z)) ≡ 0b0001
+    class-again = stays-class (s .z) (s .w) (classes s k again k-is) (some s k again k-is)
+
     go : (b : Bool) → falls s ≡ b → b ≡ true
     go true g = refl
     go false g =
         absurd
-        (odd-over (explicit (power t) t .z) (z-odd t k ready e f)
-        (ap (λ r. residue (norm (r .z))) (sym is) ∙ stays-class (s .z) (s .w) (classes s k (next-ready (ready .unitary)) k-is) (some s k (next-ready (ready .unitary)) k-is) g))
+        (odd-over (explicit (power t) t .z) (z-odd t k ready e f) (ap (λ r. residue (norm (r .z))) (sym is) ∙ class-again g))

@@ -1,4 +1,5 @@
--- Step after step until k is 0: there are at most two for each k, and the letters are those of the steps and then the closing ones. Assumes nothing.
+-- Step after step until k is 0: there are at most two for each k, and the letters are those of the steps and then the closing ones.
+-- Assumes nothing.
 use mathlib.Core.Path.{_≡_, refl, sym, _∙_, ap}
 use mathlib.Core.Bool.{Bool, true, false, cond}
 use mathlib.Core.List.{List, _++_}
@@ -9,7 +10,8 @@ use Rattle.exact.specs.Meaning.Word.{Letter, word}
 use Rattle.exact.specs.Meaning.Triple.{Triple, entries}
 use Rattle.exact.specs.Matrices.Same.{Same-refl, Same-trans, Same-of, Same-mul}
 use Rattle.exact.specs.Matrices.Words.{word-append}
-use Rattle.synthesis_of_clifford_t.specs.Step.{Ready, block, power, falls, next, next-ready, step-same, next-falls, next-stays, then-falls}
+use Rattle.synthesis_of_clifford_t.specs.Step.{Ready, block, power, falls, next, next-ready, step-same}
+use Rattle.synthesis_of_clifford_t.specs.Step.{next-falls, next-stays, then-falls}
 use Rattle.synthesis_of_clifford_t.specs.Closing.{closing, closing-is}
 
 -- ---- how many steps there may be: two for each k, or one less where the first of them lowers k
@@ -54,8 +56,12 @@ module _ (A : Type 0) (end : Triple → A) (more : Triple → A → A) where
   enough : (f g : ℕ) (t : Triple) → Ready t → left t ≤ f → left t ≤ g → within f t ≡ within g t
   enough zero g t r hf hg = sym (within-end g t (omega (arith, left-few t .0)))
   enough (suc f) zero t r hf hg = within-end (suc f) t (omega (arith, left-few t .0))
-  enough (suc f) (suc g) t r hf hg = go (t .k) refl (λ k e. enough f g (next t) (next-ready (r .unitary)) (omega (arith, left-next t k r e)) (omega (arith, left-next t k r e)))
+  enough (suc f) (suc g) t r hf hg =
+      go (t .k) refl (λ k e. enough f g (next t) (next-ready (r .unitary)) (fewer f k hf e) (fewer g k hg e))
     where
+      fewer : (i k : ℕ) → left t ≤ suc i → t .k ≡ suc k → left (next t) ≤ i
+      fewer i k h e = omega (arith, left-next t k r e)
+
       go : (k : ℕ) → t .k ≡ k → ((k : ℕ) → t .k ≡ suc k → within f (next t) ≡ within g (next t)) → within (suc f) t ≡ within (suc g) t
       go zero e ih = within-end (suc f) t e ∙ sym (within-end (suc g) t e)
       go (suc k) e ih = within-more f t k e ∙ ap (more t) (ih k e) ∙ sym (within-more g t k e)
@@ -69,13 +75,21 @@ module _ (A : Type 0) (end : Triple → A) (more : Triple → A → A) where
   gathered-more t k r e =
       ap (λ f. within f t) double
       ∙ within-more (suc (2 * k)) t k e
-      ∙ ap (more t) (enough (suc (2 * k)) (2 * next t .k) (next t) (next-ready (r .unitary)) (omega (arith, e, left-next t k r e, left-few t .1)) (left-few (next t) .1))
+      ∙ ap (more t) (enough (suc (2 * k)) (2 * next t .k) (next t) (next-ready (r .unitary)) fewer (left-few (next t) .1))
     where
+      fewer : left (next t) ≤ suc (2 * k)
+      fewer = omega (arith, e, left-next t k r e, left-few t .1)
+
       double : 2 * t .k ≡ suc (suc (2 * k))
       double = omega arith
 
 -- what holds where k is 0, and of a triple where it holds of the next one, holds of every reduced unitary triple
-pub by-steps : (P : Triple → Type 0) → ((t : Triple) → Ready t → t .k ≡ 0 → P t) → ((t : Triple) (k : ℕ) → Ready t → t .k ≡ suc k → P (next t) → P t) → (t : Triple) → Ready t → P t
+pub by-steps : (P : Triple → Type 0)
+    → ((t : Triple) → Ready t → t .k ≡ 0 → P t)
+    → ((t : Triple) (k : ℕ) → Ready t → t .k ≡ suc k → P (next t) → P t)
+    → (t : Triple)
+    → Ready t
+    → P t
 by-steps P base step t r = go (left t) t r (omega arith)
   where
     go : (f : ℕ) (t : Triple) → Ready t → left t ≤ f → P t
@@ -111,7 +125,10 @@ steps-more = gathered-more ℕ (λ t. 0) (λ t n. suc n)
 
 -- at most two for each k
 pub steps-left : (t : Triple) → Ready t → steps t ≤ left t
-steps-left = by-steps (λ t. steps t ≤ left t) (λ t r e. omega (arith, steps-end t e)) (λ t k r e h. omega (arith, steps-more t k r e, left-next t k r e))
+steps-left =
+    by-steps (λ t. steps t ≤ left t)
+    (λ t r e. omega (arith, steps-end t e))
+    (λ t k r e h. omega (arith, steps-more t k r e, left-next t k r e))
 
 pub steps-few : (t : Triple) → Ready t → steps t ≤ 2 * t .k
 steps-few t r = omega (arith, steps-left t r, left-few t .1)

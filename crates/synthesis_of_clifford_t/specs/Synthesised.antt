@@ -1,5 +1,5 @@
--- Exact synthesis whole: the letters that a unitary triple, reduced first, is taken apart into have its matrix, phase included; when a step exists, and
--- what it is; and what follows for words: their normal words' lengths, by the least exponent. Assumes nothing.
+-- Exact synthesis whole: the letters that a unitary triple, reduced first, is taken apart into have its matrix, phase included; when a
+-- step exists, and what it is; and what follows for words: their normal words' lengths, by the least exponent. Assumes nothing.
 use mathlib.Core.Path.{_≡_, ap}
 use mathlib.Core.List.{List}
 use Prim.Native.Nat.{ℕ, zero, suc, _+_, _*_, _≤_, _<_}
@@ -12,8 +12,9 @@ use Rattle.exact.specs.Meaning.Normal.{Normal}
 use Rattle.exact.specs.Meaning.Limits.{deepest, enough}
 use Rattle.exact.specs.Matrices.Same.{Same-sym, Same-trans, Same-of}
 use Rattle.exact.specs.Matrices.Triples.{unitary-same, tripleOf, word-triple, word-unitary}
-use Rattle.exact.specs.Matrices.Least.{reduce, reduce-reduces, answer-unique, least-unique, least-same}
-use Rattle.synthesis_of_clifford_t.specs.Step.{Ready, Ended, Stepped, reduction, block, power, power-few, next, next-ready, next-n, step-same}
+use Rattle.exact.specs.Matrices.Least.{Reduces, reduce, reduce-reduces, answer-unique, least-unique, least-same}
+use Rattle.synthesis_of_clifford_t.specs.Step.{Ready, Ended, Stepped, reduction, block}
+use Rattle.synthesis_of_clifford_t.specs.Step.{power, power-few, next, next-ready, next-n, step-same}
 use Rattle.synthesis_of_clifford_t.specs.Steps.{left, left-few, left-next, letters, letters-same}
 use Rattle.synthesis_of_clifford_t.specs.Counts.{answer-length}
 
@@ -27,7 +28,13 @@ pub record StepTo (t : Triple) (m : ℕ) (s : Triple) : Type 0 where
 
 -- it exists where k is over 0, and only there
 pub step-exists : (t : Triple) (k : ℕ) → Ready t → t .k ≡ suc k → StepTo t (power t) (next t)
-step-exists t k r e = record { few = power-few t; same = step-same t; ready = next-ready (r .unitary); n-small = next-n t; nearer = left-next t k r e }
+step-exists t k r e = record {
+  few = power-few t;
+  same = step-same t;
+  ready = next-ready (r .unitary);
+  n-small = next-n t;
+  nearer = left-next t k r e;
+}
 
 pub step-only : (t s : Triple) (m : ℕ) → StepTo t m s → 0 < t .k
 step-only t s m h = omega (arith, h .nearer, left-few t .1)
@@ -49,9 +56,11 @@ synthesised t u = Same-trans (letters-same (reduce t) (reduce-ready t u)) (reduc
 -- triples with one matrix have the same letters
 pub letters-alike : (s t : Triple) → Unitary s → Same (entries s) (entries t) → letters (reduce s) ≡ letters (reduce t)
 letters-alike s t u h =
+    let p : Reduces s (reduce s) = reduce-reduces s in
+    let q : Reduces t (reduce t) = reduce-reduces t in
     ap letters
-    (answer-unique (reduce-ready s u .unitary) (reduce-reduces s .reduced) (reduce-reduces t .reduced) (reduce-reduces s .n-small) (reduce-reduces t .n-small)
-    (Same-trans (reduce-reduces s .same) (Same-trans h (Same-sym (reduce-reduces t .same)))))
+    (answer-unique (reduce-ready s u .unitary) (p .reduced) (q .reduced) (p .n-small) (q .n-small)
+    (Same-trans (p .same) (Same-trans h (Same-sym (q .same)))))
 
 -- ---- words
 reduced-word : (u : List Letter) → Same (entries (reduce (tripleOf u))) (word u)
@@ -65,7 +74,8 @@ pub word-length : (u v : List Letter) (k : ℕ) → Least (word u) k → Normal 
 word-length u v k l n h =
     let r = reduce (tripleOf u) in
     let q : Ready r = reduce-ready (tripleOf u) (word-unitary u) in
-    omega (arith, answer-length r v q n (Same-trans h (Same-sym (reduced-word u))), least-unique l (least-same (reduced-word u) (q .reduced .least)))
+    let k-is : k ≡ r .k = least-unique l (least-same (reduced-word u) (q .reduced .least)) in
+    omega (arith, answer-length r v q n (Same-trans h (Same-sym (reduced-word u))))
 
 pub word-enough : (u v : List Letter) (k : ℕ) → Least (word u) k → k ≤ deepest → Normal v → Same (word v) (word u) → length v ≤ enough
 word-enough u v k l d n h = omega (arith, word-length u v k l n h)

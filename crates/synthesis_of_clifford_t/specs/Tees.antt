@@ -1,5 +1,6 @@
--- No T of a synthesised word is lost: after the first step m is not 0, two steps with m = 2 never follow each other, so between two T stands H, SH, HSH
--- or SHSH; some vector's turned parities show every T, and a normal word for any beginning of the letters has as many T letters as it. Assumes nothing.
+-- No T of a synthesised word is lost: after the first step m is not 0, two steps with m = 2 never follow each other, so between two T
+-- stands H, SH, HSH or SHSH; some vector's turned parities show every T, and a normal word for any beginning of the letters has as many T
+-- letters as it. Assumes nothing.
 use mathlib.Core.Path.{_≡_, refl, sym, _∙_, ap, ap₂}
 use mathlib.Core.Bool.{Bool, true, false}
 use mathlib.Core.List.{List, [], _∷_, _++_}
@@ -22,8 +23,9 @@ use Rattle.exact.specs.Rotation.Parity.{Par, par, none, sOf, pturnL, pturn, See
 use Rattle.exact.specs.Unique.Tails.{e₁, tees-append}
 use Rattle.exact.specs.Unique.Normal.{normal-seen, normal-fewest}
 use Rattle.synthesis_of_clifford_t.specs.Residues.{odds, powerBy, itself, even-sum}
-use Rattle.synthesis_of_clifford_t.specs.Step.{Ready, block, power, power-few, falls, next, next-ready, step-same, every, two-lower, next-falls, next-stays, then-falls}
-use Rattle.synthesis_of_clifford_t.specs.Closing.{closing, lead, swaps, quarters, phase}
+use Rattle.synthesis_of_clifford_t.specs.Step.{Ready, block, power, power-few, falls, next, next-ready, step-same}
+use Rattle.synthesis_of_clifford_t.specs.Step.{every, two-lower, next-falls, next-stays, then-falls}
+use Rattle.synthesis_of_clifford_t.specs.Closing.{closing, spell, lead, swaps, quarters, phase}
 use Rattle.synthesis_of_clifford_t.specs.Steps.{by-steps, letters, letters-end, letters-more, letters-same}
 
 -- ---- two steps lower k
@@ -43,7 +45,11 @@ power-0 t e = ap (λ r. powerBy r (residue (t .w))) same-residue ∙ itself (res
 
     odds-same : odds (t .z) ≡ odds (t .w)
     odds-same =
-        quad-path (alike (t .z .a) (t .w .a) (ap (λ q. q .a) e)) (alike (t .z .b) (t .w .b) (ap (λ q. q .b) e)) (alike (t .z .c) (t .w .c) (ap (λ q. q .c) e)) (alike (t .z .d) (t .w .d) (ap (λ q. q .d) e))
+        quad-path
+        (alike (t .z .a) (t .w .a) (ap (λ q. q .a) e))
+        (alike (t .z .b) (t .w .b) (ap (λ q. q .b) e))
+        (alike (t .z .c) (t .w .c) (ap (λ q. q .c) e))
+        (alike (t .z .d) (t .w .d) (ap (λ q. q .d) e))
 
     same-residue : residue (t .z) ≡ residue (t .w)
     same-residue = ap (λ q. bit (q .a) * 8 + bit (q .b) * 4 + bit (q .c) * 2 + bit (q .d)) odds-same
@@ -57,13 +63,24 @@ module _ (t : Triple) (k j : ℕ) (r : Ready t) (e : t .k ≡ suc k) (f : next t
     where
       go : (b : Bool) → falls t ≡ b → next (next t) .k < t .k
       go true g = omega (arith, e, ap (λ s. s .k) (next-falls t k r e g), next-k (next t) j ready f)
-      go false g = omega (arith, f, ap (λ s. s .k) (next-stays t k r e g), ap (λ s. s .k) (next-falls (next t) j ready f (then-falls t k r e g)))
+      go false g =
+          let lower = next-falls (next t) j ready f (then-falls t k r e g) in
+          omega (arith, f, ap (λ s. s .k) (next-stays t k r e g), ap (λ s. s .k) lower)
 
-  -- the two blocks and the matrix after both
-  both-same : Same (word (block (power t) ++ block (power (next t))) · entries (next (next t))) (entries t)
+  -- the matrix after two steps, and the two blocks before it
+  abbrev y : Matrix
+  y = entries (next (next t))
+
+  both-same : Same (word (block (power t) ++ block (power (next t))) · y) (entries t)
   both-same =
-      Same-trans (Same-of (ap (λ x. x · entries (next (next t))) (word-append (block (power t)) (block (power (next t)))) ∙ mul-assoc (word (block (power t))) (word (block (power (next t)))) (entries (next (next t)))))
-      (Same-trans (Same-mul (Same-refl (word (block (power t)))) (step-same (next t))) (step-same t))
+      Same-trans (Same-of (ap (λ x. x · y) (word-append u v) ∙ mul-assoc (word u) (word v) y))
+      (Same-trans (Same-mul (Same-refl (word u)) (step-same (next t))) (step-same t))
+    where
+      u : List Letter
+      u = block (power t)
+
+      v : List Letter
+      v = block (power (next t))
 
   -- H·H goes, and T^m would leave k as it was
   abbrev first : ℕ → List Letter
@@ -87,29 +104,27 @@ module _ (t : Triple) (k j : ℕ) (r : Ready t) (e : t .k ≡ suc k) (f : next t
   pub then-not-0 : power (next t) ≡ 0 → ⊥
   then-not-0 g =
       let s : Same (word (block (power t) ++ block (power (next t)))) (word (first (power t))) = rw g (struck (power t)) in
-      omega (
-        arith,
-        two-steps,
-        first-e (power t),
-        r .reduced .least .least (word (first (power t)) · entries (next (next t))) (Same-trans (Same-sym both-same) (Same-mul s (Same-refl (entries (next (next t)))))),
-      )
+      let written = Same-trans (Same-sym both-same) (Same-mul s (Same-refl y)) in
+      omega (arith, two-steps, first-e (power t), r .reduced .least .least (word (first (power t)) · y) written)
 
   -- H·SH·SH is SSSW, so that H alone would lower k by one: then z and w have the same residue, and m is 0
   pub not-2-2 : power t ≡ 2 → power (next t) ≡ 2 → ⊥
-  not-2-2 g h = let z : _≡_ {A = ℕ} 0 2 = sym (power-0 t (two-lower (entries (act H t)) y written (omega (arith, two-steps)))) ∙ g in omega arith
+  not-2-2 g h =
+      let even : odds (addQ ints (t .z) (t .w)) ≡ every false = two-lower (entries (act H t)) lower written (omega (arith, two-steps)) in
+      omega (arith, power-0 t even)
     where
-      y : Matrix
-      y = word (S ∷ S ∷ S ∷ W ∷ []) · entries (next (next t))
+      lower : Matrix
+      lower = word (S ∷ S ∷ S ∷ W ∷ []) · y
 
-      two : Same (word (S ∷ H ∷ S ∷ H ∷ []) · entries (next (next t))) (entries t)
+      two : Same (word (S ∷ H ∷ S ∷ H ∷ []) · y) (entries t)
       two = rw (g, h) at both-same
 
-      written : Same (entries (act H t)) y
+      written : Same (entries (act H t)) lower
       written =
           Same-trans (Same-of (acts H t))
           (Same-trans (Same-mul (Same-refl (letter H)) (Same-sym two))
-          (Same-trans (Same-of (sym (mul-assoc (letter H) (word (S ∷ H ∷ S ∷ H ∷ [])) (entries (next (next t))))))
-          (Same-mul (same-by (word (H ∷ S ∷ H ∷ S ∷ H ∷ [])) (word (S ∷ S ∷ S ∷ W ∷ [])) tt) (Same-refl (entries (next (next t)))))))
+          (Same-trans (Same-of (sym (mul-assoc (letter H) (word (S ∷ H ∷ S ∷ H ∷ [])) y)))
+          (Same-mul (same-by (word (H ∷ S ∷ H ∷ S ∷ H ∷ [])) (word (S ∷ S ∷ S ∷ W ∷ [])) tt) (Same-refl y))))
 
 -- ---- parities that show every T
 -- a T leaves the first, SH after it the second
@@ -164,14 +179,20 @@ closing-shows : (t : Triple) → Shows (closing t)
 unfolding closing both-axes
 closing-shows t = go (lead t) (swaps t) (quarters t) (phase t) (omega arith)
   where
-    go : (p q s m : ℕ) → p < 2 → Shows (times p T′ ++ (times q X ++ (times s S ++ times m W)))
+    go : (p q s m : ℕ) → p < 2 → Shows (spell p q s m)
     go zero q s m h = record { at = both-axes; shown = tail-turn q s m (par both-axes) ∙ s-afterT s }
-    go (suc zero) q s m h = record { at = e₁; shown = ap (λ b. record { x = b; y = b; z = false }) (ap sOf (tail-turn q s m (par e₁)) ∙ s-sum s (par e₁)) }
+    go (suc zero) q s m h = record {
+      at = e₁;
+      shown = ap (λ b. record { x = b; y = b; z = false }) (ap sOf (tail-turn q s m (par e₁)) ∙ s-sum s (par e₁));
+    }
     go (suc (suc p)) q s m h = absurd (omega arith)
 
 -- ---- the steps
 module _ (t : Triple) (k : ℕ) (r : Ready t) (e : t .k ≡ suc k) where
-  over : (m : ℕ) (at : Vect ℤ) (a : Par) → power t ≡ m → pturn (letters (next t)) (par at) ≡ a → pturn (letters t) (par at) ≡ pturn (block m) a
+  over : (m : ℕ) (at : Vect ℤ) (a : Par)
+      → power t ≡ m
+      → pturn (letters (next t)) (par at) ≡ a
+      → pturn (letters t) (par at) ≡ pturn (block m) a
   over m at a g h =
       ap (λ u. pturn u (par at)) (letters-more t k r e)
       ∙ pturn-append (block (power t)) (letters (next t)) (par at)
@@ -187,7 +208,13 @@ module _ (t : Triple) (k : ℕ) (r : Ready t) (e : t .k ≡ suc k) where
   on-T (suc (suc (suc zero))) at g l h = by-T at (over 3 at afterT g h)
   on-T (suc (suc (suc (suc m)))) at g l h = absurd (omega arith)
 
-  on-S : (m : ℕ) (at : Vect ℤ) → power t ≡ m → m < 4 → pturn (letters (next t)) (par at) ≡ afterS → 0 < next t .k → power (next t) ≡ 2 → Bright t
+  on-S : (m : ℕ) (at : Vect ℤ)
+      → power t ≡ m
+      → m < 4
+      → pturn (letters (next t)) (par at) ≡ afterS
+      → 0 < next t .k
+      → power (next t) ≡ 2
+      → Bright t
   on-S zero at g l h i j = by-H at (λ n. false-true (sym (ap (λ a. a .x) n) ∙ ap (λ a. a .x) (over 0 at afterS g h))) (omega arith) g
   on-S (suc zero) at g l h i j = by-T at (over 1 at afterS g h)
   on-S (suc (suc zero)) at g l h i j = absurd (not-2-2 t k (next t .k - 1) r e (later i) g j)

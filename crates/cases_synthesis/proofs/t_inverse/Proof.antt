@@ -1,6 +1,6 @@
 -- `cases_synthesis::t_inverse` hands over the identity, whose numbers are small.
 use mathlib.Core.Path.{_≡_, ap, subst, sym}
-use Prim.Native.Nat.{_^_}
+use Prim.Native.Nat.{_^_, _<_}
 use native.Mathlib.Omega.{arith}
 use Rattle.exact.specs.Meaning.Number.{Sized}
 use Rattle.exact.specs.Meaning.Triple.{Triple}
@@ -12,14 +12,21 @@ use borrow.Author.Needs.{needs}
 use Rattle.cases_synthesis.proofs.t_inverse.Statement.{statement}
 use Rattle.cases_synthesis.proofs.t_inverse.Tie as tie
 
-small : (t : DOmegaUnitary) → triple t ≡ identity → Small (t .w)
-small t e = record { sized = subst (Sized (2 ^ 31)) (sym (ap (λ (u : Triple). u .w) e)) (record { a-small = omega arith; b-small = omega arith; c-small = omega arith; d-small = omega arith }) }
+nothing-sized : Sized (2 ^ 31) (identity .w)
+nothing-sized = record { a-small = omega arith; b-small = omega arith; c-small = omega arith; d-small = omega arith }
+
+module _ (t : DOmegaUnitary) (e : triple t ≡ identity) where
+  w-small : Small (t .w)
+  w-small = record { sized = subst (Sized (2 ^ 31)) (sym (ap (λ (u : Triple). u .w) e)) nothing-sized }
+
+  n-small : t .n < 8
+  n-small = omega (arith, ap (λ (u : Triple). u .n) e)
 
 identity-requires : tie.Need-identity-requires
 identity-requires c κs = search needs
 
 mul-by-t-inv-from-left-requires : tie.Need-mul-by-t-inv-from-left-requires
-mul-by-t-inv-from-left-requires c κs = (small (c .identity .result) (c .identity .ensures), omega (arith, ap (λ (u : Triple). u .n) (c .identity .ensures)))
+mul-by-t-inv-from-left-requires c κs = search (needs, w-small, n-small)
 
 slice-aggregate-text : tie.Need-slice-aggregate-text
 slice-aggregate-text c = search needs

@@ -1,21 +1,14 @@
--- `synthesis_of_clifford_t::decompose_domega_unitary` meets its contract: each turn takes a step and writes its block into the free rest; the measure is how many steps there may be.
-use mathlib.Core.Path.{_≡_}
-use Prim.Native.Nat.{ℕ, _≤_}
+-- `synthesis_of_clifford_t::decompose_domega_unitary` meets its contract: each turn takes a step and writes its block into the free
+-- rest; the measure is how many steps there may be.
 use native.Mathlib.Omega.{arith}
-use denote.Ref.{now}
-use borrow.Author.Needs.{needs}
 use Rattle.unitary.specs.Triples.{triple}
-use Rattle.normal_form.specs.Answers.{bytes-length}
-use Rattle.synthesis_of_clifford_t.specs.Step.{block}
-use Rattle.synthesis_of_clifford_t.specs.Closing.{closing, closing-length}
 use Rattle.synthesis_of_clifford_t.specs.Steps.{left}
-use Rattle.synthesis_of_clifford_t.specs.Counts.{block-length}
-use Rattle.synthesis_of_clifford_t.specs.Parts.{Writing, writing-start, writing-good, writing-len, writing-inside, writing-same, not-ended, step-few, step-nearer, step-room, step-writing, end-room, end-put}
+use Rattle.synthesis_of_clifford_t.specs.Parts.{Writing, writing-start, still-good, still-few, len-inside, length-kept, block-fits}
+use Rattle.synthesis_of_clifford_t.specs.Parts.{not-ended, step-few, step-nearer, step-room, step-writing}
+use Rattle.synthesis_of_clifford_t.specs.Parts.{end-room, end-fits, end-put}
+use borrow.Author.Needs.{needs}
 use Rattle.synthesis_of_clifford_t.proofs.decompose_domega_unitary.Statement.{statement}
 use Rattle.synthesis_of_clifford_t.proofs.decompose_domega_unitary.Tie as tie
-
-none-left : (k : ℕ) → k ≤ 0 → k ≡ 0
-none-left k h = omega arith
 
 abbrev Inv-loop : tie.InvT-loop
 Inv-loop work₀ u₀ len₀ work u len = Writing work₀ u₀ work u len
@@ -24,10 +17,10 @@ abbrev μ-loop : tie.MeasureT-loop
 μ-loop work₀ u₀ len₀ work u len = left (triple u)
 
 loop-holds : tie.Need-loop-holds Inv-loop μ-loop
-loop-holds c = let s = c .before in writing-start (now (s .args .work)) (s .args .t) (s .pre .0) (s .pre .1 .0) (s .pre .1 .1)
+loop-holds c = search (needs, writing-start)
 
 reduce-denomexp-requires : tie.Need-reduce-denomexp-requires Inv-loop μ-loop
-reduce-denomexp-requires c κs = writing-good (c .before .before .loop .inv)
+reduce-denomexp-requires c κs = search (needs, still-good, still-few)
 
 enum-known-m : tie.Need-enum-known-m Inv-loop μ-loop
 enum-known-m c = search needs
@@ -36,81 +29,52 @@ enum-told : tie.Need-enum-told Inv-loop μ-loop
 enum-told c = search needs
 
 same-length : tie.Need-same-length Inv-loop μ-loop
-same-length c = absurd (not-ended (c .before .before .before .before .before .loop .inv) (c .before .before .before .if1 .taken) (c .before .before .reduce-denomexp .result) (c .before .before .reduce-denomexp .ensures) (c .enum-told .given .1))
+same-length c = absurd (search (needs, not-ended))
 
 returns : tie.Need-returns Inv-loop μ-loop
-returns c = absurd (not-ended (c .before .before .before .before .before .loop .inv) (c .before .before .before .if1 .taken) (c .before .before .reduce-denomexp .result) (c .before .before .reduce-denomexp .ensures) (c .enum-told .given .1))
+returns c = absurd (search (needs, not-ended))
 
 sub-write-block : tie.Need-sub-write-block Inv-loop μ-loop
-sub-write-block c = writing-inside (c .before .before .before .before .before .before .loop .inv)
+sub-write-block c = search (needs, len-inside)
 
 part-write-block-start : tie.Need-part-write-block-start Inv-loop μ-loop
-part-write-block-start c = writing-inside (c .before .before .before .before .before .before .loop .inv)
+part-write-block-start c = search (needs, len-inside)
 
 part-write-block-end : tie.Need-part-write-block-end Inv-loop μ-loop
 part-write-block-end c = omega arith
 
 write-block-requires : tie.Need-write-block-requires Inv-loop μ-loop
-write-block-requires c κs =
-    let the-loop = c .before .before .before .before .before .before .before .loop in
-    let the-if1 = c .before .before .before .before .before .if1 in
-    let the-reduce-denomexp = c .before .before .before .before .reduce-denomexp in
-    let the-m = c .before .before .m in
-    (step-few (the-loop .inv) (the-if1 .taken) (the-reduce-denomexp .result) (the-reduce-denomexp .ensures) (the-m .given .0 .0) (the-m .given .0 .1 .0) (the-m .given .1), step-room (the-loop .inv) (the-if1 .taken) (the-reduce-denomexp .result) (the-reduce-denomexp .ensures) (the-m .given .0 .0) (the-m .given .0 .1 .0) (the-m .given .1))
+write-block-requires c κs = search (needs, step-few, step-room)
 
 add-len : tie.Need-add-len Inv-loop μ-loop
-add-len c =
-    let the-loop = c .before .before .before .before .before .before .before .before .before .before .loop in
-    let the-m = c .before .before .before .before .before .m in
-    record { fits = omega (arith, writing-len (the-loop .inv) .1, c .before .before .write-block .ensures .next, bytes-length (block (the-m .given .0 .0)), block-length (the-m .given .0 .0) .1) }
+add-len c = search (needs, block-fits)
 
 loop-less : tie.Need-loop-less Inv-loop μ-loop
-loop-less c =
-    let the-loop = c .before .before .before .before .before .before .before .before .before .before .loop in
-    let the-if1 = c .before .before .before .before .before .before .before .before .if1 in
-    let the-reduce-denomexp = c .before .before .before .before .before .before .before .reduce-denomexp in
-    let the-m = c .before .before .before .before .before .m in
-    step-nearer (the-loop .inv) (the-if1 .taken) (the-reduce-denomexp .result) (the-reduce-denomexp .ensures) (the-m .given .0 .0) (the-m .given .0 .1 .0) (the-m .given .1)
+loop-less c = search (needs, step-nearer)
 
 loop-again : tie.Need-loop-again Inv-loop μ-loop
-loop-again c =
-    let the-loop = c .before .before .before .before .before .before .before .before .before .before .loop in
-    let the-if1 = c .before .before .before .before .before .before .before .before .if1 in
-    let the-reduce-denomexp = c .before .before .before .before .before .before .before .reduce-denomexp in
-    let the-m = c .before .before .before .before .before .m in
-    let the-write-block = c .before .before .write-block in
-    step-writing (the-loop .inv) (the-if1 .taken) (the-reduce-denomexp .result) (the-reduce-denomexp .ensures) (the-m .given .0 .0) (the-m .given .0 .1 .0) (the-m .given .1) (the-write-block .last .0) (the-write-block .result) (the-write-block .ensures)
+loop-again c = search (needs, step-writing)
 
 sub-write-closing : tie.Need-sub-write-closing Inv-loop μ-loop
-sub-write-closing c = writing-inside (c .before .before .loop .inv)
+sub-write-closing c = search (needs, len-inside)
 
 part-write-closing-start : tie.Need-part-write-closing-start Inv-loop μ-loop
-part-write-closing-start c = writing-inside (c .before .before .loop .inv)
+part-write-closing-start c = search (needs, len-inside)
 
 part-write-closing-end : tie.Need-part-write-closing-end Inv-loop μ-loop
 part-write-closing-end c = omega arith
 
 write-closing-requires : tie.Need-write-closing-requires Inv-loop μ-loop
-write-closing-requires c κs =
-    let the-loop = c .before .before .before .loop in
-    let the-if1 = c .before .if1 in
-    (writing-good (the-loop .inv) .0, ((none-left (the-loop .u .k) (the-if1 .left)), end-room (the-loop .inv) (none-left (the-loop .u .k) (the-if1 .left))))
+write-closing-requires c κs = search (needs, still-good, end-room)
 
 add-result : tie.Need-add-result Inv-loop μ-loop
-add-result c =
-    let the-loop = c .before .before .before .before .before .before .loop in
-    let the-if1 = c .before .before .before .before .if1 in
-    record { fits = omega (arith, writing-len (the-loop .inv) .1, c .before .before .write-closing .ensures .next, bytes-length (closing (triple (the-loop .u))), closing-length (triple (the-loop .u)) (the-loop .inv .progress .ready .unitary) (none-left (the-loop .u .k) (the-if1 .left))) }
+add-result c = search (needs, end-fits)
 
 same-length-2 : tie.Need-same-length-2 Inv-loop μ-loop
-same-length-2 c = writing-same (c .before .before .before .before .before .before .loop .inv) (c .before .before .write-closing .last .0) (c .before .before .write-closing .kept .0)
+same-length-2 c = search (needs, length-kept)
 
 returns-2 : tie.Need-returns-2 Inv-loop μ-loop
-returns-2 c =
-    let the-loop = c .before .before .before .before .before .before .loop in
-    let the-if1 = c .before .before .before .before .if1 in
-    let the-write-closing = c .before .before .write-closing in
-    end-put (the-loop .inv) (none-left (the-loop .u .k) (the-if1 .left)) (the-write-closing .last .0) (the-write-closing .result) (the-write-closing .ensures)
+returns-2 c = search (needs, end-put)
 
 pub decompose-domega-unitary-spec : {M : Type 1} → statement M
 decompose-domega-unitary-spec =
