@@ -6,6 +6,7 @@ pub mod Steps
 pub mod Held
 pub mod Outcome
 pub mod Letters
+pub mod Reader
 pub mod Put
 pub mod Endings
 pub mod Answers
