@@ -1,22 +1,45 @@
 -- The reader's turns over a word: what is known at a place, and what one letter or two more make of it. Assumes nothing.
 use mathlib.Core.Path.{_≡_, refl, sym, _∙_, ap, ap₂, subst}
-use mathlib.Core.List.{List}
+use mathlib.Core.List.{List, [], _∷_, _++_}
 use Prim.Native.Nat.{ℕ, _+_, _≤_, _<_}
+use native.Mathlib.Numerals.{add-one}
 use native.Mathlib.Omega.{arith}
 use lib.ListN.{length, take, getD}
-use lib.Seq.{take-all}
+use lib.Seq.{take-suc, take-all}
 use Rattle.exact.specs.Meaning.Word.{I, job3, In, FirstOutside}
 use Rattle.exact.specs.Cases.Letters.{letterOf, lettersOf}
 use Rattle.normal_form.specs.declared.reading.Read.the-variants as Read
 use Rattle.normal_form.specs.declared.reading.Reading.{Reading}
-use Rattle.normal_form.specs.Held.{Blank, Holds, Readable, Steps, pair, start-holds, count-few, run-more, run-pair}
+use Rattle.normal_form.specs.Held.{Blank, Holds, Readable, Steps, pair, count-few}
 use Rattle.normal_form.specs.Letters.{Inside, Reads, inside-none, inside-more, numbered-in, numbered-out}
-use Rattle.normal_form.specs.Readings.{State, start, read, run}
+use Rattle.normal_form.specs.Readings.{State, start, read, run, run-append}
 use Rattle.normal_form.specs.Steps.{letterNumber, letterAt, letterAt-is}
 
 -- what the letters before a place are read as
 abbrev readTo : List ℕ → ℕ → State
 readTo w i = run start (lettersOf (take i w))
+
+lettersOf-append : (u v : List ℕ) → lettersOf (u ++ v) ≡ lettersOf u ++ lettersOf v
+lettersOf-append [] v = refl
+lettersOf-append (b ∷ u) v = ap (λ x. letterOf b ∷ x) (lettersOf-append u v)
+
+-- one letter more, and two
+run-more : (w : List ℕ) (i : ℕ) → i < length w → readTo w (i + 1) ≡ read (letterOf (getD w i 0)) (readTo w i)
+run-more w i h =
+    ap (λ u. run start (lettersOf u)) (ap (λ n. take n w) (add-one i) ∙ take-suc w i 0 h)
+    ∙ ap (run start) (lettersOf-append (take i w) (getD w i 0 ∷ []))
+    ∙ run-append start (lettersOf (take i w)) (letterOf (getD w i 0) ∷ [])
+
+run-pair : (w : List ℕ) (i : ℕ)
+    → i + 1 < length w
+    → readTo w (i + 2) ≡ pair (letterOf (getD w i 0)) (letterOf (getD w (i + 1) 0)) (readTo w i)
+run-pair w i h =
+    ap (readTo w) (twice i)
+    ∙ run-more w (i + 1) h
+    ∙ ap (read (letterOf (getD w (i + 1) 0))) (run-more w i (omega arith))
+  where
+    twice : (i : ℕ) → i + 2 ≡ i + 1 + 1
+    twice i = omega arith
 
 -- the letters before a place are read, in an array as long as it was
 pub record Upto (w first items : List ℕ) (r : Reading) (i : ℕ) : Type 0 where
@@ -25,11 +48,20 @@ pub record Upto (w first items : List ℕ) (r : Reading) (i : ℕ) : Type 0 wher
   pub inside : Inside w i
   pub held : Holds items r (readTo w i)
 
-pub upto-none : (w items : List ℕ)
-    → Blank items
-    → Upto w items items (record { count = 0; bytes = 0; tail = record { code = 0; phase = 0 } }) 0
-upto-none w items b =
-    record { within = omega arith; same = refl; inside = inside-none w; held = start-holds items b }
+abbrev none : Reading
+none = record { count = 0; bytes = 0; tail = record { code = 0; phase = 0 } }
+
+pub upto-none : (w items : List ℕ) → Blank items → Upto w items items none 0
+upto-none w items b = record { within = omega arith; same = refl; inside = inside-none w; held = held }
+  where
+    held : Holds items none start
+    held =
+        record {
+          array = record { count = refl; front = refl; empty = λ i k. b .empty i };
+          bytes-is = refl;
+          tail-is = refl;
+          fits = record { code-few = omega arith; phase-few = omega arith };
+        }
 
 -- n is the number of the byte at place i
 abbrev pub Numbered : List ℕ → ℕ → ℕ → Type 0
