@@ -250,5 +250,11 @@ number-in rows right b l h =
     back : (b : ℕ) → 72 ≤ b → b - 72 + 72 ≡ b
     back b l = omega arith
 
-pub number-out : (b : ℕ) → (b ≡ 72 → ⊥) → (b ≡ 83 → ⊥) → (b ≡ 88 → ⊥) → (b ≡ 87 → ⊥) → (b ≡ 84 → ⊥) → 5 ≡ letterNumber (letterOf b)
+number-out : (b : ℕ) → (b ≡ 72 → ⊥) → (b ≡ 83 → ⊥) → (b ≡ 88 → ⊥) → (b ≡ 87 → ⊥) → (b ≡ 84 → ⊥) → 5 ≡ letterNumber (letterOf b)
 number-out b h s x w t = rw (ne-eqb b 72 h, ne-eqb b 83 s, ne-eqb b 88 x, ne-eqb b 87 w, ne-eqb b 84 t)
+
+pub number-low : (b : ℕ) → b < 72 → 5 ≡ letterNumber (letterOf b)
+number-low b l = number-out b (λ e. omega arith) (λ e. omega arith) (λ e. omega arith) (λ e. omega arith) (λ e. omega arith)
+
+pub number-high : (b : ℕ) → 88 < b → 5 ≡ letterNumber (letterOf b)
+number-high b l = number-out b (λ e. omega arith) (λ e. omega arith) (λ e. omega arith) (λ e. omega arith) (λ e. omega arith)
