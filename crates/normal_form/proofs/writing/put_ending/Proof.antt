@@ -4,12 +4,10 @@ use Prim.Native.Nat.{_-_}
 use native.Mathlib.Omega.{arith}
 use borrow.Author.Needs.{needs}
 use denote.Ref.{now}
-use lib.ListN.{length}
 use Rattle.exact.specs.Meaning.Word.{bytes}
 use Rattle.normal_form.specs.Answers.{bytes-length}
 use Rattle.normal_form.specs.Endings.{endWord, endSize, end-length, letter-in}
 use Rattle.normal_form.specs.Put.{Putting, putting-none, putting-long, putting-more, putting-all}
-use Rattle.normal_form.specs.declared.writing.Ending.{Ending}
 use Rattle.normal_form.proofs.writing.put_ending.Statement.{statement}
 use Rattle.normal_form.proofs.writing.put_ending.Tie as tie
 

@@ -1,10 +1,9 @@
 -- `normal_form::writing::put_times` meets its contract. Assumes nothing.
+use mathlib.Core.Path.{sym}
 use Prim.Native.Nat.{_-_}
 use native.Mathlib.Omega.{arith}
 use borrow.Author.Needs.{needs}
-use denote.Ref.{now}
 use lib.ListN.{replicate, length-replicate, getD-replicate}
-use mathlib.Core.Path.{sym}
 use Rattle.normal_form.specs.Put.{Putting, putting-none, putting-long, putting-more, putting-all}
 use Rattle.normal_form.proofs.writing.put_times.Statement.{statement}
 use Rattle.normal_form.proofs.writing.put_times.Tie as tie
