@@ -192,7 +192,8 @@ orI-more : (u : List Letter) → (length u ≡ 0 → ⊥) → orI u ≡ u
 orI-more [] f = absurd (f refl)
 orI-more (l ∷ u) f = refl
 
-end-none : (x s w : ℕ) (b : Bool) (e : eqb (0 + 0 + x + s + w) 0 ≡ b)
+end-none : (x s w : ℕ) (b : Bool)
+    → eqb (0 + 0 + x + s + w) 0 ≡ b
     → times (cond b 1 0) I ++ (times x X ++ (times s S ++ times w W)) ≡ orI (times x X ++ (times s S ++ times w W))
 end-none x s w true k =
     let z : 0 + 0 + x + s + w ≡ 0 = eqb-true (0 + 0 + x + s + w) 0 k in

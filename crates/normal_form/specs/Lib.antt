@@ -8,6 +8,7 @@ pub mod Outcome
 pub mod Letters
 pub mod Reader
 pub mod Put
+pub mod Spelt
 pub mod Endings
 pub mod Answers
 pub mod Theorems
