@@ -205,7 +205,8 @@ end-none x s w false k =
     let z : (0 + 0 + x + s + w ≡ 0 → ⊥) = eqb-false (0 + 0 + x + s + w) 0 k in
     sym (orI-more (times x X ++ (times s S ++ times w W)) (λ e. z (omega (arith, simp (length-append, times-length) at e))))
 
-end-at : (a : Axis) (c : Clifford) → endWord (endingAt true (record { axis = a; rest = c })) ≡ orI (tailWord (tailAt (record { axis = a; rest = c })))
+end-at : (a : Axis) (c : Clifford)
+    → endWord (endingAt true (record { axis = a; rest = c })) ≡ orI (tailWord (tailAt (record { axis = a; rest = c })))
 end-at Axis.H c = rw (ne-eqb (0 + 1 + c .b + c .c + c .d) 0 (λ z. omega arith))
 end-at Axis.SH c = rw (ne-eqb (1 + 1 + c .b + c .c + c .d) 0 (λ z. omega arith))
 end-at Axis.I c = end-none (c .b) (c .c) (c .d) (eqb (0 + 0 + c .b + c .c + c .d) 0) refl

@@ -6,7 +6,9 @@ use Rattle.normal_form.proofs.reading.cancel.Statement.{statement}
 use Rattle.normal_form.proofs.reading.cancel.Tie as tie
 
 push-requires : tie.Need-push-requires
-push-requires c κs = (search needs, search needs, bytes-most (c .before .before .before .before .pre .1 .0 .holds) (omega arith), omega arith)
+push-requires c κs =
+    let the-pre = c .before .before .before .before .pre .1 in
+    (search needs, search needs, bytes-most (the-pre .0 .holds) (omega arith), omega arith)
 
 same-length : tie.Need-same-length
 same-length c = search needs

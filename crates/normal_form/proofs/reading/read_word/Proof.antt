@@ -50,7 +50,9 @@ returns-2 : tie.Need-returns-2 Inv-loop μ-loop
 returns-2 c =
     let the-first = c .before .before .before .before in
     let the-turn = the-first .before .before .before in
-    second-outside (the-turn .loop .inv) (search needs) (the-first .number .ensures) (search needs) (c .before .number2 .ensures) (c .if2 .taken)
+    second-outside (the-turn .loop .inv) (search needs)
+    (the-first .number .ensures) (search needs)
+    (c .before .number2 .ensures) (c .if2 .taken)
 
 append-gates-requires : tie.Need-append-gates-requires Inv-loop μ-loop
 append-gates-requires c κs =
@@ -69,7 +71,10 @@ loop-again c =
     let the-second = c .before .before .before .before .before in
     let the-first = the-second .before .before .before in
     let the-turn = the-first .before .before .before in
-    upto-two (the-turn .loop .inv) (search needs) (the-first .number .ensures) (search needs) (the-second .number2 .ensures) (search needs) (search needs) (c .before .before .append-gates .ensures)
+    upto-two (the-turn .loop .inv) (search needs)
+    (the-first .number .ensures) (search needs)
+    (the-second .number2 .ensures) (search needs)
+    (search needs) (c .before .before .append-gates .ensures)
 
 shared-slice-read-number-3 : tie.Need-shared-slice-read-number-3 Inv-loop μ-loop
 shared-slice-read-number-3 c = omega arith

@@ -1,13 +1,14 @@
 -- `normal_form::writing::put_ending` meets its contract. Assumes nothing.
 use mathlib.Core.Path.{_≡_, sym, _∙_}
-use Prim.Native.Nat.{_-_}
+use Prim.Native.Nat.{ℕ, _-_}
 use native.Mathlib.Omega.{arith}
 use borrow.Author.Needs.{needs}
-use denote.Ref.{now}
+use lib.ListN.{length}
 use Rattle.exact.specs.Meaning.Word.{bytes}
 use Rattle.normal_form.specs.Answers.{bytes-length}
 use Rattle.normal_form.specs.Endings.{endWord, endSize, end-length, letter-in}
 use Rattle.normal_form.specs.Put.{Putting, putting-none, putting-long, putting-more, putting-all}
+use Rattle.normal_form.specs.declared.writing.Ending.{Ending}
 use Rattle.normal_form.proofs.writing.put_ending.Statement.{statement}
 use Rattle.normal_form.proofs.writing.put_ending.Tie as tie
 
@@ -17,13 +18,14 @@ Inv-loop buf₀ at e n j₀ buf j = (n ≡ endSize e) × Putting buf₀ at (byte
 abbrev μ-loop : tie.MeasureT-loop
 μ-loop buf₀ at e n j₀ buf j = n - j
 
+sized : (e : Ending) (n : ℕ) → n ≡ endSize e → length (bytes (endWord e)) ≡ n
+sized e n h = bytes-length (endWord e) ∙ end-length e ∙ sym h
+
 size-requires : tie.Need-size-requires Inv-loop μ-loop
 size-requires c κs = search needs
 
 loop-holds : tie.Need-loop-holds Inv-loop μ-loop
-loop-holds c =
-    let a = c .before .before .args in
-    (search needs, putting-none (now (a .buf)) (a .at) (bytes (endWord (a .e))) (c .size .result) (bytes-length (endWord (a .e)) ∙ end-length (a .e) ∙ sym (c .size .ensures)) (omega arith))
+loop-holds c = (search needs, putting-none _ _ _ _ (sized (c .before .before .args .e) _ (c .size .ensures)) (omega arith))
 
 letter-requires : tie.Need-letter-requires Inv-loop μ-loop
 letter-requires c κs = omega arith
