@@ -15,13 +15,11 @@ use lib.Seq.{length-take-le, take-set-le, take-suc-set, take-take, take-append-s
 use lib.Seq.{getD-set-same, getD-set-other}
 use Rattle.exact.specs.Meaning.Word.{Letter}
 use Rattle.exact.specs.Meaning.Normal as normal
-use Rattle.exact.specs.Cases.Letters.{letterOf, lettersOf}
+use Rattle.exact.specs.Cases.Letters.{lettersOf}
 use Rattle.clifford.specs.declared.Axis.{Axis}
 use Rattle.clifford.specs.declared.Axis.the-variants as Axis
 use Rattle.clifford.specs.declared.Clifford.{Clifford}
 use Rattle.normal_form.specs.declared.reading.Reading.{Reading}
-use Rattle.normal_form.specs.declared.reading.Syllable.{Syllable}
-use Rattle.normal_form.specs.declared.reading.Syllable.the-variants as Syllable
 use Rattle.normal_form.specs.declared.steps.Step.{Step}
 use Rattle.normal_form.specs.declared.steps.Tail.{Tail}
 use Rattle.clifford.specs.Job6.{Ranged}

@@ -14,9 +14,9 @@ use Rattle.clifford.specs.declared.Clifford.{Clifford}
 use Rattle.clifford.specs.Job6.{letters, Ranged, axisNumber, axis-at, one-Clifford}
 use Rattle.clifford.specs.Words.{_≈_, by-eq, by-sym, _⨾_, under, before}
 use Rattle.clifford.specs.Tables.{quadruple, all, at, all3, at3}
-use Rattle.clifford.specs.Cliffords.{mulC, mul-ranged, tconjC, tconj-ranged, few, H-ranged}
+use Rattle.clifford.specs.Cliffords.{mulC, mul-ranged, tconjC, tconj-ranged, H-ranged}
 use Rattle.clifford.specs.Cliffords.{cliffordX, cliffordS, cliffordW, cliffordH, cliffordHS, cliffordSHS}
-use Rattle.normal_form.specs.Readings.{State, state, tee, read, times-Clifford, S-ranged, HS-ranged, SHS-ranged}
+use Rattle.normal_form.specs.Readings.{State, state, tee, read, times-Clifford, X-ranged, W-ranged, S-ranged, HS-ranged, SHS-ranged}
 
 -- ---- one letter: 0 where the syllables stay, 1 where a T meets the last of them, 2 where HT is added and 3 where SHT is
 abbrev pub kindOf : Axis → ℕ
@@ -257,8 +257,8 @@ two T′ T′ st h = twice st h
 two T′ I st h = one T′ st
 two T′ H st h = tee-then cliffordH H-ranged st
 two T′ S st h = tee-then cliffordS S-ranged st
-two T′ X st h = tee-then cliffordX (few 0 1 0 0 (omega arith) (omega arith) (omega arith) (omega arith)) st
-two T′ W st h = tee-then cliffordW (few 0 0 0 1 (omega arith) (omega arith) (omega arith) (omega arith)) st
+two T′ X st h = tee-then cliffordX X-ranged st
+two T′ W st h = tee-then cliffordW W-ranged st
 two I m st h = one m st
 two H m st h = one m (read H st)
 two S m st h = one m (read S st)

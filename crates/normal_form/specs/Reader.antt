@@ -6,7 +6,7 @@ use native.Mathlib.Numerals.{add-one}
 use native.Mathlib.Omega.{arith}
 use lib.ListN.{length, take, getD}
 use lib.Seq.{take-suc, take-all}
-use Rattle.exact.specs.Meaning.Word.{I, job3, In, FirstOutside}
+use Rattle.exact.specs.Meaning.Word.{I, job3, FirstOutside}
 use Rattle.exact.specs.Cases.Letters.{letterOf, lettersOf}
 use Rattle.normal_form.specs.declared.reading.Read.the-variants as Read
 use Rattle.normal_form.specs.declared.reading.Reading.{Reading}

@@ -250,7 +250,8 @@ module _ (rows : List ℕ) (right : Right rows) (t : Tail) (h : Fits t) where
   axis-row : tailOf (moved t (axisEntry rows (t .code)) 0) ≡ splitC (tailOf t) .rest
   axis-row =
       given (axisEntry rows (t .code)) 0 t (splitC (tailOf t) .rest)
-      (at 8 (axisTest rows (t .code)) (at 24 (λ g. all 8 (axisTest rows g)) (right .axes) (t .code) (h .code-few)) (t .phase) (h .phase-few))
+      (at 8 (axisTest rows (t .code))
+      (at 24 (λ g. all 8 (axisTest rows g)) (right .axes) (t .code) (h .code-few)) (t .phase) (h .phase-few))
       .1
 
 abbrev pub axisAt : ℕ → Axis

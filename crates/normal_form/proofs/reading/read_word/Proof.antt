@@ -56,8 +56,8 @@ returns-2 c =
 
 append-gates-requires : tie.Need-append-gates-requires Inv-loop μ-loop
 append-gates-requires c κs =
-    let the-turn = c .before .before .before .before .before in
-    let u = the-turn .before .before .before .loop .inv in
+    let the-first = c .before .before .before .before .before in
+    let u = the-first .before .before .before .loop .inv in
     (search needs, (readable u, (room u (omega arith) (omega arith) (omega arith), (omega arith, omega arith))))
 
 add-i : tie.Need-add-i Inv-loop μ-loop
@@ -90,8 +90,8 @@ returns-3 c = search (needs, first-outside)
 
 append-gates-requires-2 : tie.Need-append-gates-requires-2 Inv-loop μ-loop
 append-gates-requires-2 c κs =
-    let the-turn = c .before .before .before in
-    let u = the-turn .before .before .before .loop .inv in
+    let the-last = c .before .before in
+    let u = the-last .before .before .before .before .loop .inv in
     (search needs, (readable u, (room u (omega arith) (omega arith) (omega arith), (omega arith, omega arith))))
 
 same-length-4 : tie.Need-same-length-4 Inv-loop μ-loop
