@@ -227,10 +227,10 @@ keeps-append {u} {v} h k =
     record {
       keeps =
           λ x.
-            ap lessFinalW (append-assoc u v x)
-            ∙ h .keeps (v ++ x)
-            ∙ ap (λ y. u ++ y) (k .keeps x)
-            ∙ sym (append-assoc u v (lessFinalW x));
+          ap lessFinalW (append-assoc u v x)
+          ∙ h .keeps (v ++ x)
+          ∙ ap (λ y. u ++ y) (k .keeps x)
+          ∙ sym (append-assoc u v (lessFinalW x));
     }
 
 keeps-times : (n : ℕ) (l : Letter) → ((u : List Letter) → kept l u ≡ l ∷ u) → Keeps (times n l)
