@@ -7,7 +7,7 @@ use native.Mathlib.Nat.{zero-add, suc-add}
 use native.Mathlib.Omega.{arith}
 use lib.Dec.{eqb, ltb}
 use lib.ListN.{length, length-append, getD}
-use borrow.Author.Tests.{eqb-true, eqb-false, ne-eqb, ltb-true, ltb-false}
+use borrow.Author.Tests.{eqb-true, eqb-false, ne-eqb, ltb-true, ltb-false, lt-ltb, le-ltb}
 use Rattle.exact.specs.Meaning.Word.{Letter, I, H, S, X, W, byte, bytes, tees}
 use Rattle.exact.specs.Meaning.Normal.{times, tailWord, orI, kept, lessFinalW, HT, SHT, Syllable}
 use Rattle.exact.specs.Unique.Tails.{tees-append}
@@ -30,15 +30,54 @@ aitchesOf Axis.I = 0
 aitchesOf Axis.H = 1
 aitchesOf Axis.SH = 1
 
+-- the letters from each run on
+abbrev fromS : Ending → List Letter
+fromS e = times (e .s) S ++ times (e .w) W
+
+abbrev fromX : Ending → List Letter
+fromX e = times (e .x) X ++ fromS e
+
+abbrev fromI : Ending → List Letter
+fromI e = times (e .i) I ++ fromX e
+
+abbrev fromH : Ending → List Letter
+fromH e = times (e .h) H ++ fromI e
+
 abbrev pub endWord : Ending → List Letter
-endWord e = times (e .first) S ++ (times (e .h) H ++ (times (e .i) I ++ (times (e .x) X ++ (times (e .s) S ++ times (e .w) W))))
+endWord e = times (e .first) S ++ fromH e
 
 abbrev pub endSize : Ending → ℕ
 endSize e = e .first + e .h + e .i + e .x + e .s + e .w
 
 -- ---- the letter at a place
+-- where each run ends
+abbrev toH : Ending → ℕ
+toH e = e .first + e .h
+
+abbrev toI : Ending → ℕ
+toI e = toH e + e .i
+
+abbrev toX : Ending → ℕ
+toX e = toI e + e .x
+
+abbrev toS : Ending → ℕ
+toS e = toX e + e .s
+
+-- and the letter there
+abbrev atS : Ending → ℕ → ℕ
+atS e j = cond (ltb j (toS e)) 83 87
+
+abbrev atX : Ending → ℕ → ℕ
+atX e j = cond (ltb j (toX e)) 88 (atS e j)
+
+abbrev atI : Ending → ℕ → ℕ
+atI e j = cond (ltb j (toI e)) 73 (atX e j)
+
+abbrev atH : Ending → ℕ → ℕ
+atH e j = cond (ltb j (toH e)) 72 (atI e j)
+
 abbrev pub letterIn : Ending → ℕ → ℕ
-letterIn e j = cond (ltb j (e .first)) 83 (cond (ltb j (e .first + e .h)) 72 (cond (ltb j (e .first + e .h + e .i)) 73 (cond (ltb j (e .first + e .h + e .i + e .x)) 88 (cond (ltb j (e .first + e .h + e .i + e .x + e .s)) 83 87))))
+letterIn e j = cond (ltb j (e .first)) 83 (atH e j)
 
 -- among some of one letter, or past them
 in-run : (n : ℕ) (l : Letter) (u : List Letter) (j : ℕ) → j < n → byte l ≡ getD (bytes (times n l ++ u)) j 0
@@ -48,10 +87,13 @@ in-run (suc n) l u (suc j) h = in-run n l u j (omega arith)
 
 past-run : (n : ℕ) (l : Letter) (u : List Letter) (j k : ℕ) → j ≡ n + k → getD (bytes u) k 0 ≡ getD (bytes (times n l ++ u)) j 0
 past-run zero l u j k e = ap (λ i. getD (bytes u) i 0) (sym (e ∙ zero-add k))
-past-run (suc n) l u j k e = subst (λ (i : ℕ). getD (bytes u) k 0 ≡ getD (bytes (times (suc n) l ++ u)) i 0) (sym (e ∙ suc-add n k)) (past-run n l u (n + k) k refl)
+past-run (suc n) l u j k e = rw (e ∙ suc-add n k) (past-run n l u (n + k) k refl)
 
 -- place j of all is place k of these letters, which end at b
-run-next : (b n : ℕ) (l : Letter) (u : List Letter) (j k x : ℕ) → j + n ≡ k + b → (b ≤ j → x ≡ getD (bytes u) (j - b) 0) → cond (ltb j b) (byte l) x ≡ getD (bytes (times n l ++ u)) k 0
+run-next : (b n : ℕ) (l : Letter) (u : List Letter) (j k x : ℕ)
+    → j + n ≡ k + b
+    → (b ≤ j → x ≡ getD (bytes u) (j - b) 0)
+    → cond (ltb j b) (byte l) x ≡ getD (bytes (times n l ++ u)) k 0
 run-next b n l u j k x h f = go (ltb j b) refl
   where
     go : (t : Bool) → ltb j b ≡ t → cond t (byte l) x ≡ getD (bytes (times n l ++ u)) k 0
@@ -59,22 +101,44 @@ run-next b n l u j k x h f = go (ltb j b) refl
     go false e = f (ltb-false j b e) ∙ past-run n l u k (j - b) (omega (arith, ltb-false j b e))
 
 pub letter-in : (e : Ending) (j : ℕ) → j < endSize e → letterIn e j ≡ getD (bytes (endWord e)) j 0
-letter-in e j h = run-next (e .first) (e .first) S (times (e .h) H ++ (times (e .i) I ++ (times (e .x) X ++ (times (e .s) S ++ times (e .w) W)))) j j (cond (ltb j (e .first + e .h)) 72 (cond (ltb j (e .first + e .h + e .i)) 73 (cond (ltb j (e .first + e .h + e .i + e .x)) 88 (cond (ltb j (e .first + e .h + e .i + e .x + e .s)) 83 87)))) refl after₁
+letter-in e j h = run-next (e .first) (e .first) S (fromH e) j j (atH e j) refl afterS
   where
-    after₅ : e .first + e .h + e .i + e .x + e .s ≤ j → 87 ≡ getD (bytes (times (e .w) W)) (j - (e .first + e .h + e .i + e .x + e .s)) 0
-    after₅ k = in-run (e .w) W [] (j - (e .first + e .h + e .i + e .x + e .s)) (omega (arith, h, k)) ∙ ap (λ v. getD (bytes v) (j - (e .first + e .h + e .i + e .x + e .s)) 0) (append-nil (times (e .w) W))
+    afterAll : toS e ≤ j → 87 ≡ getD (bytes (times (e .w) W)) (j - toS e) 0
+    afterAll k =
+        in-run (e .w) W [] (j - toS e) (omega (arith, h, k))
+        ∙ ap (λ v. getD (bytes v) (j - toS e) 0) (append-nil (times (e .w) W))
 
-    after₄ : e .first + e .h + e .i + e .x ≤ j → cond (ltb j (e .first + e .h + e .i + e .x + e .s)) 83 87 ≡ getD (bytes (times (e .s) S ++ times (e .w) W)) (j - (e .first + e .h + e .i + e .x)) 0
-    after₄ k = run-next (e .first + e .h + e .i + e .x + e .s) (e .s) S (times (e .w) W) j (j - (e .first + e .h + e .i + e .x)) (87) (omega (arith, k)) after₅
+    afterX : toX e ≤ j → atS e j ≡ getD (bytes (fromS e)) (j - toX e) 0
+    afterX k = run-next (toS e) (e .s) S (times (e .w) W) j (j - toX e) 87 (omega (arith, k)) afterAll
 
-    after₃ : e .first + e .h + e .i ≤ j → cond (ltb j (e .first + e .h + e .i + e .x)) 88 (cond (ltb j (e .first + e .h + e .i + e .x + e .s)) 83 87) ≡ getD (bytes (times (e .x) X ++ (times (e .s) S ++ times (e .w) W))) (j - (e .first + e .h + e .i)) 0
-    after₃ k = run-next (e .first + e .h + e .i + e .x) (e .x) X (times (e .s) S ++ times (e .w) W) j (j - (e .first + e .h + e .i)) (cond (ltb j (e .first + e .h + e .i + e .x + e .s)) 83 87) (omega (arith, k)) after₄
+    afterI : toI e ≤ j → atX e j ≡ getD (bytes (fromX e)) (j - toI e) 0
+    afterI k = run-next (toX e) (e .x) X (fromS e) j (j - toI e) (atS e j) (omega (arith, k)) afterX
 
-    after₂ : e .first + e .h ≤ j → cond (ltb j (e .first + e .h + e .i)) 73 (cond (ltb j (e .first + e .h + e .i + e .x)) 88 (cond (ltb j (e .first + e .h + e .i + e .x + e .s)) 83 87)) ≡ getD (bytes (times (e .i) I ++ (times (e .x) X ++ (times (e .s) S ++ times (e .w) W)))) (j - (e .first + e .h)) 0
-    after₂ k = run-next (e .first + e .h + e .i) (e .i) I (times (e .x) X ++ (times (e .s) S ++ times (e .w) W)) j (j - (e .first + e .h)) (cond (ltb j (e .first + e .h + e .i + e .x)) 88 (cond (ltb j (e .first + e .h + e .i + e .x + e .s)) 83 87)) (omega (arith, k)) after₃
+    afterH : toH e ≤ j → atI e j ≡ getD (bytes (fromI e)) (j - toH e) 0
+    afterH k = run-next (toI e) (e .i) I (fromX e) j (j - toH e) (atX e j) (omega (arith, k)) afterI
 
-    after₁ : e .first ≤ j → cond (ltb j (e .first + e .h)) 72 (cond (ltb j (e .first + e .h + e .i)) 73 (cond (ltb j (e .first + e .h + e .i + e .x)) 88 (cond (ltb j (e .first + e .h + e .i + e .x + e .s)) 83 87))) ≡ getD (bytes (times (e .h) H ++ (times (e .i) I ++ (times (e .x) X ++ (times (e .s) S ++ times (e .w) W))))) (j - (e .first)) 0
-    after₁ k = run-next (e .first + e .h) (e .h) H (times (e .i) I ++ (times (e .x) X ++ (times (e .s) S ++ times (e .w) W))) j (j - (e .first)) (cond (ltb j (e .first + e .h + e .i)) 73 (cond (ltb j (e .first + e .h + e .i + e .x)) 88 (cond (ltb j (e .first + e .h + e .i + e .x + e .s)) 83 87))) (omega (arith, k)) after₂
+    afterS : e .first ≤ j → atH e j ≡ getD (bytes (fromH e)) (j - e .first) 0
+    afterS k = run-next (toH e) (e .h) H (fromI e) j (j - e .first) (atI e j) (omega (arith, k)) afterH
+
+-- by the tests, one after the other
+module _ (e : Ending) (j : ℕ) where
+  pub is-first : j < e .first → 83 ≡ letterIn e j
+  is-first l = rw (lt-ltb j (e .first) l)
+
+  pub is-H : e .first ≤ j → j < toH e → 72 ≡ letterIn e j
+  is-H a l = rw (le-ltb j (e .first) a, lt-ltb j (toH e) l)
+
+  pub is-I : e .first ≤ j → toH e ≤ j → j < toI e → 73 ≡ letterIn e j
+  is-I a b l = rw (le-ltb j (e .first) a, le-ltb j (toH e) b, lt-ltb j (toI e) l)
+
+  pub is-X : e .first ≤ j → toH e ≤ j → toI e ≤ j → j < toX e → 88 ≡ letterIn e j
+  is-X a b c l = rw (le-ltb j (e .first) a, le-ltb j (toH e) b, le-ltb j (toI e) c, lt-ltb j (toX e) l)
+
+  pub is-S : e .first ≤ j → toH e ≤ j → toI e ≤ j → toX e ≤ j → j < toS e → 83 ≡ letterIn e j
+  is-S a b c d l = rw (le-ltb j (e .first) a, le-ltb j (toH e) b, le-ltb j (toI e) c, le-ltb j (toX e) d, lt-ltb j (toS e) l)
+
+  pub is-W : e .first ≤ j → toH e ≤ j → toI e ≤ j → toX e ≤ j → toS e ≤ j → 87 ≡ letterIn e j
+  is-W a b c d l = rw (le-ltb j (e .first) a, le-ltb j (toH e) b, le-ltb j (toI e) c, le-ltb j (toX e) d, le-ltb j (toS e) l)
 
 -- an empty tail is one I
 abbrev pub endingAt : Bool → Coset → Ending
@@ -104,11 +168,8 @@ pub times-length : (n : ℕ) (l : Letter) → length (times n l) ≡ n
 times-length zero l = refl
 times-length (suc n) l = ap suc (times-length n l)
 
-six-length : (a b c d e f : List Letter) → length (a ++ (b ++ (c ++ (d ++ (e ++ f))))) ≡ length a + length b + length c + length d + length e + length f
-six-length a b c d e f = omega (arith, length-append a (b ++ (c ++ (d ++ (e ++ f)))), length-append b (c ++ (d ++ (e ++ f))), length-append c (d ++ (e ++ f)), length-append d (e ++ f), length-append e f)
-
 pub end-length : (e : Ending) → length (endWord e) ≡ endSize e
-end-length e = six-length (times (e .first) S) (times (e .h) H) (times (e .i) I) (times (e .x) X) (times (e .s) S) (times (e .w) W) ∙ rw (times-length (e .first) S, times-length (e .h) H, times-length (e .i) I, times-length (e .x) X, times-length (e .s) S, times-length (e .w) W)
+end-length e = simp (length-append, times-length) (omega arith)
 
 axis-few : (a : Axis) → essesOf a + aitchesOf a ≤ 2
 axis-few Axis.I = omega arith
@@ -123,14 +184,17 @@ pub end-few : (phase : Bool) (q : Clifford) → Ranged q → endSize (endingOf p
 end-few phase q h =
     let r = splitC q in
     let p = split-right q h .ranged in
-    omega (arith, p .b-few, p .c-few, p .d-few, axis-few (r .axis), cond-few phase (r .rest .d) 0, cond-few (eqb (essesOf (r .axis) + aitchesOf (r .axis) + r .rest .b + r .rest .c + r .rest .d) 0) 1 0)
+    let n = essesOf (r .axis) + aitchesOf (r .axis) + r .rest .b + r .rest .c + r .rest .d in
+    omega (arith, p .b-few, p .c-few, p .d-few, axis-few (r .axis), cond-few phase (r .rest .d) 0, cond-few (eqb n 0) 1 0)
 
 -- ---- with the W letters: the tail, I where it is empty
 orI-more : (u : List Letter) → (length u ≡ 0 → ⊥) → orI u ≡ u
 orI-more [] f = absurd (f refl)
 orI-more (l ∷ u) f = refl
 
-end-none : (x s w : ℕ) (b : Bool) → eqb (0 + 0 + x + s + w) 0 ≡ b → times (cond b 1 0) I ++ (times x X ++ (times s S ++ times w W)) ≡ orI (times x X ++ (times s S ++ times w W))
+end-none : (x s w : ℕ) (b : Bool)
+    → eqb (0 + 0 + x + s + w) 0 ≡ b
+    → times (cond b 1 0) I ++ (times x X ++ (times s S ++ times w W)) ≡ orI (times x X ++ (times s S ++ times w W))
 end-none x s w true k =
     let z : 0 + 0 + x + s + w ≡ 0 = eqb-true (0 + 0 + x + s + w) 0 k in
     let a : x ≡ 0 = omega arith in
@@ -139,9 +203,10 @@ end-none x s w true k =
     rw (a, b, c)
 end-none x s w false k =
     let z : (0 + 0 + x + s + w ≡ 0 → ⊥) = eqb-false (0 + 0 + x + s + w) 0 k in
-    sym (orI-more (times x X ++ (times s S ++ times w W)) (λ e. z (omega (arith, e, length-append (times x X) (times s S ++ times w W), length-append (times s S) (times w W), times-length x X, times-length s S, times-length w W))))
+    sym (orI-more (times x X ++ (times s S ++ times w W)) (λ e. z (omega (arith, simp (length-append, times-length) at e))))
 
-end-at : (a : Axis) (c : Clifford) → endWord (endingAt true (record { axis = a; rest = c })) ≡ orI (tailWord (tailAt (record { axis = a; rest = c })))
+end-at : (a : Axis) (c : Clifford)
+    → endWord (endingAt true (record { axis = a; rest = c })) ≡ orI (tailWord (tailAt (record { axis = a; rest = c })))
 end-at Axis.H c = rw (ne-eqb (0 + 1 + c .b + c .c + c .d) 0 (λ z. omega arith))
 end-at Axis.SH c = rw (ne-eqb (1 + 1 + c .b + c .c + c .d) 0 (λ z. omega arith))
 end-at Axis.I c = end-none (c .b) (c .c) (c .d) (eqb (0 + 0 + c .b + c .c + c .d) 0) refl
@@ -159,7 +224,14 @@ keeps-nil = record { keeps = λ v. refl }
 
 keeps-append : {u v : List Letter} → Keeps u → Keeps v → Keeps (u ++ v)
 keeps-append {u} {v} h k =
-    record { keeps = λ x. ap lessFinalW (append-assoc u v x) ∙ h .keeps (v ++ x) ∙ ap (λ y. u ++ y) (k .keeps x) ∙ sym (append-assoc u v (lessFinalW x)) }
+    record {
+      keeps =
+          λ x.
+          ap lessFinalW (append-assoc u v x)
+          ∙ h .keeps (v ++ x)
+          ∙ ap (λ y. u ++ y) (k .keeps x)
+          ∙ sym (append-assoc u v (lessFinalW x));
+    }
 
 keeps-times : (n : ℕ) (l : Letter) → ((u : List Letter) → kept l u ≡ l ∷ u) → Keeps (times n l)
 keeps-times n l f = record { keeps = λ v. go n v }
@@ -180,13 +252,13 @@ keeps-prefix b (SHT ∷ ss) = keeps-append (keeps-prefix b ss) (record { keeps =
 
 end-less : (e : Ending) → lessFinalW (endWord e) ≡ endWord (record { first = e .first; h = e .h; i = e .i; x = e .x; s = e .s; w = 0 })
 end-less e =
-    keeps-times (e .first) S (λ u. refl) .keeps (times (e .h) H ++ (times (e .i) I ++ (times (e .x) X ++ (times (e .s) S ++ times (e .w) W))))
+    keeps-times (e .first) S (λ u. refl) .keeps (fromH e)
     ∙ ap (λ y. times (e .first) S ++ y)
-    (keeps-times (e .h) H (λ u. refl) .keeps (times (e .i) I ++ (times (e .x) X ++ (times (e .s) S ++ times (e .w) W)))
+    (keeps-times (e .h) H (λ u. refl) .keeps (fromI e)
     ∙ ap (λ y. times (e .h) H ++ y)
-    (keeps-times (e .i) I (λ u. refl) .keeps (times (e .x) X ++ (times (e .s) S ++ times (e .w) W))
+    (keeps-times (e .i) I (λ u. refl) .keeps (fromX e)
     ∙ ap (λ y. times (e .i) I ++ y)
-    (keeps-times (e .x) X (λ u. refl) .keeps (times (e .s) S ++ times (e .w) W)
+    (keeps-times (e .x) X (λ u. refl) .keeps (fromS e)
     ∙ ap (λ y. times (e .x) X ++ y)
     (keeps-times (e .s) S (λ u. refl) .keeps (times (e .w) W)
     ∙ ap (λ y. times (e .s) S ++ y) (no-more (e .w))))))
@@ -206,8 +278,7 @@ times-tees zero l e = refl
 times-tees (suc n) l e = omega (arith, times-tees n l e)
 
 pub end-tees : (e : Ending) → tees (endWord e) ≡ 0
-end-tees e =
-    omega (arith, tees-append (times (e .first) S) (times (e .h) H ++ (times (e .i) I ++ (times (e .x) X ++ (times (e .s) S ++ times (e .w) W)))), tees-append (times (e .h) H) (times (e .i) I ++ (times (e .x) X ++ (times (e .s) S ++ times (e .w) W))), tees-append (times (e .i) I) (times (e .x) X ++ (times (e .s) S ++ times (e .w) W)), tees-append (times (e .x) X) (times (e .s) S ++ times (e .w) W), tees-append (times (e .s) S) (times (e .w) W), times-tees (e .first) S refl, times-tees (e .h) H refl, times-tees (e .i) I refl, times-tees (e .x) X refl, times-tees (e .s) S refl, times-tees (e .w) W refl)
+end-tees e = simp (tees-append, times-tees)
 
 -- ---- as the program has it
 pub record Few (r : Coset) : Type 0 where
@@ -216,13 +287,30 @@ pub record Few (r : Coset) : Type 0 where
   pub c : r .rest .c ≤ 3
   pub d : r .rest .d ≤ 7
 
-pub split-few : (q : Clifford) (r : Coset) → Ranged q → r ≡ splitC q → Few r
-split-few q r h e =
+pub split-few : {q : Clifford} {r : Coset} → Ranged q → r ≡ splitC q → Few r
+split-few {q} h e =
     let p = split-right q h .ranged in
-    rw e (record { axis = axis-few (splitC q .axis); b = omega (arith, p .b-few); c = omega (arith, p .c-few); d = omega (arith, p .d-few) })
+    rw e
+    (record {
+      axis = axis-few (splitC q .axis);
+      b = omega (arith, p .b-few);
+      c = omega (arith, p .c-few);
+      d = omega (arith, p .d-few);
+    })
 
-pub ended : (phase : Bool) (q : Clifford) (r : Coset) (first h i x s w last : ℕ) → Ranged q → r ≡ splitC q → first ≡ essesOf (r .axis) → h ≡ aitchesOf (r .axis) → x ≡ r .rest .b → s ≡ r .rest .c → w ≡ r .rest .d → i ≡ cond (eqb (first + h + x + s + w) 0) 1 0 → last ≡ cond phase w 0 → Ended phase q (record { first = first; h = h; i = i; x = x; s = s; w = last })
-ended phase q r first h i x s w last k e e₁ e₂ e₃ e₄ e₅ e₆ e₇ = record { is = is; few = subst (λ (n : Ending). endSize n ≤ 64) (sym is) (end-few phase q k) }
+pub ended : {phase : Bool} {q : Clifford} {r : Coset} {first h i x s w last : ℕ}
+    → Ranged q
+    → r ≡ splitC q
+    → first ≡ essesOf (r .axis)
+    → h ≡ aitchesOf (r .axis)
+    → x ≡ r .rest .b
+    → s ≡ r .rest .c
+    → w ≡ r .rest .d
+    → i ≡ cond (eqb (first + h + x + s + w) 0) 1 0
+    → last ≡ cond phase w 0
+    → Ended phase q (record { first = first; h = h; i = i; x = x; s = s; w = last })
+ended {phase} {q} {r} {first} {h} {i} {x} {s} {w} {last} k e e₁ e₂ e₃ e₄ e₅ e₆ e₇ =
+    record { is = is; few = subst (λ (n : Ending). endSize n ≤ 64) (sym is) (end-few phase q k) }
   where
     is : _≡_ {A = Ending} (record { first = first; h = h; i = i; x = x; s = s; w = last }) (endingOf phase q)
     is = rw (e₆, e₇, e₁, e₂, e₃, e₄, e₅, e)

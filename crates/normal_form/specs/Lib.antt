@@ -6,7 +6,9 @@ pub mod Steps
 pub mod Held
 pub mod Outcome
 pub mod Letters
+pub mod Reader
 pub mod Put
+pub mod Spelt
 pub mod Endings
 pub mod Answers
 pub mod Theorems

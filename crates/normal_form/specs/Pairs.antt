@@ -14,8 +14,9 @@ use Rattle.clifford.specs.declared.Clifford.{Clifford}
 use Rattle.clifford.specs.Job6.{letters, Ranged, axisNumber, axis-at, one-Clifford}
 use Rattle.clifford.specs.Words.{_≈_, by-eq, by-sym, _⨾_, under, before}
 use Rattle.clifford.specs.Tables.{quadruple, all, at, all3, at3}
-use Rattle.clifford.specs.Cliffords.{mulC, mul-ranged, tconjC, tconj-ranged, few, cliffordX, cliffordS, cliffordW, cliffordH, cliffordHS, cliffordSHS, H-ranged}
-use Rattle.normal_form.specs.Readings.{State, state, tee, read, times-Clifford, S-ranged, HS-ranged, SHS-ranged}
+use Rattle.clifford.specs.Cliffords.{mulC, mul-ranged, tconjC, tconj-ranged, H-ranged}
+use Rattle.clifford.specs.Cliffords.{cliffordX, cliffordS, cliffordW, cliffordH, cliffordHS, cliffordSHS}
+use Rattle.normal_form.specs.Readings.{State, state, tee, read, times-Clifford, X-ranged, W-ranged, S-ranged, HS-ranged, SHS-ranged}
 
 -- ---- one letter: 0 where the syllables stay, 1 where a T meets the last of them, 2 where HT is added and 3 where SHT is
 abbrev pub kindOf : Axis → ℕ
@@ -125,7 +126,8 @@ kind-few l m q = go l m
 
 -- ---- a Clifford letter behind a T
 pub mul-assoc : (x y z : Clifford) → Ranged x → Ranged y → Ranged z → mulC (mulC x y) z ≡ mulC x (mulC y z)
-mul-assoc x y z hx hy hz = one-Clifford (mulC (mulC x y) z) (mulC x (mulC y z)) (mul-ranged (mulC x y) z) (mul-ranged x (mulC y z)) (whole .same)
+mul-assoc x y z hx hy hz =
+    one-Clifford (mulC (mulC x y) z) (mulC x (mulC y z)) (mul-ranged (mulC x y) z) (mul-ranged x (mulC y z)) (whole .same)
   where
     whole : letters (mulC (mulC x y) z) ≈ letters (mulC x (mulC y z))
     whole =
@@ -138,18 +140,19 @@ mul-assoc x y z hx hy hz = one-Clifford (mulC (mulC x y) z) (mulC x (mulC y z)) 
 abbrev timesState : Clifford → State → State
 timesState c st = state (st .lead) (st .stack) (mulC (st .q) c)
 
-behind : (c : Clifford) → Ranged c → (a : Axis) (r : Clifford) → Ranged r → (b : Bool) (ss : List Syllable) → timesState c (tee a r b ss) ≡ tee a (mulC r c) b ss
-behind c hc Axis.H r hr b ss = refl
-behind c hc Axis.SH r hr b ss = refl
-behind c hc Axis.I r hr b (HT ∷ ss) = ap (state b ss) (mul-assoc cliffordHS r c HS-ranged hr hc)
-behind c hc Axis.I r hr b (SHT ∷ ss) = ap (state b ss) (mul-assoc cliffordSHS r c SHS-ranged hr hc)
-behind c hc Axis.I r hr true [] = ap (state false []) (mul-assoc cliffordS r c S-ranged hr hc)
-behind c hc Axis.I r hr false [] = refl
+module _ (c : Clifford) (hc : Ranged c) where
+  behind : (a : Axis) (r : Clifford) → Ranged r → (b : Bool) (ss : List Syllable) → timesState c (tee a r b ss) ≡ tee a (mulC r c) b ss
+  behind Axis.H r hr b ss = refl
+  behind Axis.SH r hr b ss = refl
+  behind Axis.I r hr b (HT ∷ ss) = ap (state b ss) (mul-assoc cliffordHS r c HS-ranged hr hc)
+  behind Axis.I r hr b (SHT ∷ ss) = ap (state b ss) (mul-assoc cliffordSHS r c SHS-ranged hr hc)
+  behind Axis.I r hr true [] = ap (state false []) (mul-assoc cliffordS r c S-ranged hr hc)
+  behind Axis.I r hr false [] = refl
 
-tee-then : (c : Clifford) → Ranged c → (st : State) → timesState c (read T′ st) ≡ after (kind T′ (st .q)) (mulC (next T′ (st .q)) c) (st .lead) (st .stack)
-tee-then c hc st =
-    behind c hc (tconjC (st .q) .axis) (tconjC (st .q) .rest) (tconj-ranged (st .q)) (st .lead) (st .stack)
-    ∙ tee-after (tconjC (st .q) .axis) (mulC (tconjC (st .q) .rest) c) (st .lead) (st .stack)
+  tee-then : (st : State) → timesState c (read T′ st) ≡ after (kind T′ (st .q)) (mulC (next T′ (st .q)) c) (st .lead) (st .stack)
+  tee-then st =
+      behind (tconjC (st .q) .axis) (tconjC (st .q) .rest) (tconj-ranged (st .q)) (st .lead) (st .stack)
+      ∙ tee-after (tconjC (st .q) .axis) (mulC (tconjC (st .q) .rest) c) (st .lead) (st .stack)
 
 -- ---- T and T: whatever the syllables, they are there again
 abbrev pub eqClifford : Clifford → Clifford → Bool
@@ -170,50 +173,72 @@ eqClifford-is x y t =
 abbrev passes : Axis → Clifford → Clifford → Clifford → Bool
 passes a x y g = eqb (axisNumber (tconjC x .axis)) (axisNumber a) && eqClifford y g
 
-abbrev twiceTest : Axis → Clifford → Clifford → Bool
-twiceTest Axis.H r g = passes Axis.I r (mulC cliffordHS (tconjC r .rest)) g
-twiceTest Axis.SH r g = passes Axis.I r (mulC cliffordSHS (tconjC r .rest)) g
-twiceTest Axis.I r g =
-    (passes Axis.I r (mulC cliffordS (tconjC r .rest)) g && passes Axis.I (mulC cliffordS r) (tconjC (mulC cliffordS r) .rest) g)
-    && (passes Axis.H (mulC cliffordHS r) (tconjC (mulC cliffordHS r) .rest) g && passes Axis.SH (mulC cliffordSHS r) (tconjC (mulC cliffordSHS r) .rest) g)
+-- it passes r with no axis, and then meets a syllable that makes c; or it passes what such a syllable made
+abbrev meets : Clifford → Clifford → Clifford → Bool
+meets c r g = passes Axis.I r (mulC c (tconjC r .rest)) g
 
-passed : (a : Axis) (x y g : Clifford) (b b′ : Bool) (ss ss′ : List Syllable) → (tee a (tconjC x .rest) b ss ≡ state b′ ss′ y) → T (passes a x y g) → read T′ (state b ss x) ≡ state b′ ss′ g
+abbrev parts : Axis → Clifford → Clifford → Clifford → Bool
+parts a c r g = passes a (mulC c r) (tconjC (mulC c r) .rest) g
+
+abbrev frontTest : Clifford → Clifford → Bool
+frontTest r g = meets cliffordS r g && parts Axis.I cliffordS r g
+
+abbrev backTest : Clifford → Clifford → Bool
+backTest r g = parts Axis.H cliffordHS r g && parts Axis.SH cliffordSHS r g
+
+abbrev twiceTest : Axis → Clifford → Clifford → Bool
+twiceTest Axis.H r g = meets cliffordHS r g
+twiceTest Axis.SH r g = meets cliffordSHS r g
+twiceTest Axis.I r g = frontTest r g && backTest r g
+
+passed : (a : Axis) (x y g : Clifford) (b b′ : Bool) (ss ss′ : List Syllable)
+    → tee a (tconjC x .rest) b ss ≡ state b′ ss′ y
+    → T (passes a x y g)
+    → read T′ (state b ss x) ≡ state b′ ss′ g
 passed a x y g b b′ ss ss′ e t =
     let s = and-yes (eqb (axisNumber (tconjC x .axis)) (axisNumber a)) (eqClifford y g) t in
-    ap (λ (k : Axis). tee k (tconjC x .rest) b ss) (axis-at (tconjC x .axis) a (eqb→eq (axisNumber (tconjC x .axis)) (axisNumber a) (s .0)))
-    ∙ e
-    ∙ ap (state b′ ss′) (eqClifford-is y g (s .1))
+    let same : tconjC x .axis ≡ a = axis-at (tconjC x .axis) a (eqb→eq (axisNumber (tconjC x .axis)) (axisNumber a) (s .0)) in
+    ap (λ (k : Axis). tee k (tconjC x .rest) b ss) same ∙ e ∙ ap (state b′ ss′) (eqClifford-is y g (s .1))
+
+met : (c r g : Clifford) (b b′ : Bool) (ss ss′ : List Syllable)
+    → tee Axis.I (tconjC r .rest) b ss ≡ state b′ ss′ (mulC c (tconjC r .rest))
+    → T (meets c r g)
+    → read T′ (state b ss r) ≡ state b′ ss′ g
+met c r g = passed Axis.I r (mulC c (tconjC r .rest)) g
+
+parted : (a : Axis) (c r g : Clifford) (b b′ : Bool) (ss ss′ : List Syllable)
+    → tee a (tconjC (mulC c r) .rest) b ss ≡ state b′ ss′ (tconjC (mulC c r) .rest)
+    → T (parts a c r g)
+    → read T′ (state b ss (mulC c r)) ≡ state b′ ss′ g
+parted a c r g = passed a (mulC c r) (tconjC (mulC c r) .rest) g
 
 twice-by : (a : Axis) (r g : Clifford) → T (twiceTest a r g) → (b : Bool) (ss : List Syllable) → read T′ (tee a r b ss) ≡ state b ss g
-twice-by Axis.H r g t b ss = passed Axis.I r (mulC cliffordHS (tconjC r .rest)) g b b (HT ∷ ss) ss refl t
-twice-by Axis.SH r g t b ss = passed Axis.I r (mulC cliffordSHS (tconjC r .rest)) g b b (SHT ∷ ss) ss refl t
+twice-by Axis.H r g t b ss = met cliffordHS r g b b (HT ∷ ss) ss refl t
+twice-by Axis.SH r g t b ss = met cliffordSHS r g b b (SHT ∷ ss) ss refl t
 twice-by Axis.I r g t b ss = go b ss
   where
-    front : Bool
-    front = passes Axis.I r (mulC cliffordS (tconjC r .rest)) g && passes Axis.I (mulC cliffordS r) (tconjC (mulC cliffordS r) .rest) g
+    s : T (frontTest r g) × T (backTest r g)
+    s = and-yes (frontTest r g) (backTest r g) t
 
-    back : Bool
-    back = passes Axis.H (mulC cliffordHS r) (tconjC (mulC cliffordHS r) .rest) g && passes Axis.SH (mulC cliffordSHS r) (tconjC (mulC cliffordSHS r) .rest) g
+    u : T (meets cliffordS r g) × T (parts Axis.I cliffordS r g)
+    u = and-yes (meets cliffordS r g) (parts Axis.I cliffordS r g) (s .0)
 
-    s : T front × T back
-    s = and-yes front back t
-
-    u : T (passes Axis.I r (mulC cliffordS (tconjC r .rest)) g) × T (passes Axis.I (mulC cliffordS r) (tconjC (mulC cliffordS r) .rest) g)
-    u = and-yes (passes Axis.I r (mulC cliffordS (tconjC r .rest)) g) (passes Axis.I (mulC cliffordS r) (tconjC (mulC cliffordS r) .rest) g) (s .0)
-
-    v : T (passes Axis.H (mulC cliffordHS r) (tconjC (mulC cliffordHS r) .rest) g) × T (passes Axis.SH (mulC cliffordSHS r) (tconjC (mulC cliffordSHS r) .rest) g)
-    v = and-yes (passes Axis.H (mulC cliffordHS r) (tconjC (mulC cliffordHS r) .rest) g) (passes Axis.SH (mulC cliffordSHS r) (tconjC (mulC cliffordSHS r) .rest) g) (s .1)
+    v : T (parts Axis.H cliffordHS r g) × T (parts Axis.SH cliffordSHS r g)
+    v = and-yes (parts Axis.H cliffordHS r g) (parts Axis.SH cliffordSHS r g) (s .1)
 
     go : (b : Bool) (ss : List Syllable) → read T′ (tee Axis.I r b ss) ≡ state b ss g
-    go b (HT ∷ ss) = passed Axis.H (mulC cliffordHS r) (tconjC (mulC cliffordHS r) .rest) g b b ss (HT ∷ ss) refl (v .0)
-    go b (SHT ∷ ss) = passed Axis.SH (mulC cliffordSHS r) (tconjC (mulC cliffordSHS r) .rest) g b b ss (SHT ∷ ss) refl (v .1)
-    go true [] = passed Axis.I (mulC cliffordS r) (tconjC (mulC cliffordS r) .rest) g false true [] [] refl (u .1)
-    go false [] = passed Axis.I r (mulC cliffordS (tconjC r .rest)) g true false [] [] refl (u .0)
+    go b (HT ∷ ss) = parted Axis.H cliffordHS r g b b ss (HT ∷ ss) refl (v .0)
+    go b (SHT ∷ ss) = parted Axis.SH cliffordSHS r g b b ss (SHT ∷ ss) refl (v .1)
+    go true [] = parted Axis.I cliffordS r g false true [] [] refl (u .1)
+    go false [] = met cliffordS r g true false [] [] refl (u .0)
 
 abbrev twiceAt : Clifford → Bool
 twiceAt q = twiceTest (tconjC q .axis) (tconjC q .rest) (mulC q cliffordS)
 
-twice-table : T (all3 (λ a b c. all 8 (λ d. twiceAt (quadruple a b c d))))
+abbrev twiceRow : ℕ → ℕ → ℕ → Bool
+twiceRow a b c = all 8 (λ d. twiceAt (quadruple a b c d))
+
+twice-table : T (all3 twiceRow)
 unfolding mulC tconjC
 twice-table = tt
 
@@ -222,16 +247,18 @@ twice st h =
     let q = st .q in
     twice-by (tconjC q .axis) (tconjC q .rest) (mulC q cliffordS)
     (at 8 (λ d. twiceAt (quadruple (q .a) (q .b) (q .c) d))
-    (at3 (λ a b c. all 8 (λ d. twiceAt (quadruple a b c d))) twice-table (q .a) (q .b) (q .c) (h .a-few) (h .b-few) (h .c-few)) (q .d) (h .d-few))
+    (at3 twiceRow twice-table (q .a) (q .b) (q .c) (h .a-few) (h .b-few) (h .c-few)) (q .d) (h .d-few))
     (st .lead) (st .stack)
 
-pub two : (l m : Letter) (st : State) → Ranged (st .q) → read m (read l st) ≡ after (kind₂ l m (st .q)) (next₂ l m (st .q)) (st .lead) (st .stack)
+pub two : (l m : Letter) (st : State)
+    → Ranged (st .q)
+    → read m (read l st) ≡ after (kind₂ l m (st .q)) (next₂ l m (st .q)) (st .lead) (st .stack)
 two T′ T′ st h = twice st h
 two T′ I st h = one T′ st
 two T′ H st h = tee-then cliffordH H-ranged st
 two T′ S st h = tee-then cliffordS S-ranged st
-two T′ X st h = tee-then cliffordX (few 0 1 0 0 (omega arith) (omega arith) (omega arith) (omega arith)) st
-two T′ W st h = tee-then cliffordW (few 0 0 0 1 (omega arith) (omega arith) (omega arith) (omega arith)) st
+two T′ X st h = tee-then cliffordX X-ranged st
+two T′ W st h = tee-then cliffordW W-ranged st
 two I m st h = one m st
 two H m st h = one m (read H st)
 two S m st h = one m (read S st)

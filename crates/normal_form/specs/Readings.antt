@@ -1,5 +1,5 @@
--- Readings: syllables and a Clifford. Reading a letter keeps the matrix of the letters read and the shape, a T at most in front and then HT and SHT.
--- So every word has a normal word, and its length and T letters are known before it is written. Assumes nothing.
+-- Readings: syllables and a Clifford. Reading a letter keeps the matrix of the letters read and the shape, a T at most in front and then
+-- HT and SHT. So every word has a normal word, and its length and T letters are known before it is written. Assumes nothing.
 use mathlib.Core.Path.{_≡_, refl, sym, _∙_, ap, ap₂}
 use mathlib.Core.Bool.{Bool, true, false, cond}
 use mathlib.Core.List.{List, [], _∷_, _++_, append-assoc, append-nil}
@@ -8,7 +8,8 @@ use native.Mathlib.Omega.{arith}
 use lib.ListN.{length, length-append}
 use Rattle.exact.specs.Meaning.Matrix.{Same}
 use Rattle.exact.specs.Meaning.Word.{Letter, I, H, S, X, W, T′, word, tees}
-use Rattle.exact.specs.Meaning.Normal.{Syllable, HT, SHT, Front, nothing, onlyH, onlySH, Tail, Shape, times, frontWord, tailWord, orI, after, leading, spell, Fits, Normal}
+use Rattle.exact.specs.Meaning.Normal.{Syllable, HT, SHT, Front, nothing, onlyH, onlySH, Tail, Shape, Fits, Normal}
+use Rattle.exact.specs.Meaning.Normal.{times, frontWord, tailWord, orI, after, leading, spell}
 use Rattle.exact.specs.Meaning.Clifford.{cycle}
 use Rattle.exact.specs.Matrices.Same.{Same-of}
 use Rattle.exact.specs.Unique.Normal.{spell-word}
@@ -19,7 +20,9 @@ use Rattle.clifford.specs.declared.Clifford.{Clifford}
 use Rattle.clifford.specs.declared.Coset.{Coset}
 use Rattle.clifford.specs.Job6.{letters, axisWord, Ranged, Split}
 use Rattle.clifford.specs.Words.{_≈_, by-test, by-refl, by-eq, by-sym, _⨾_, under, before}
-use Rattle.clifford.specs.Cliffords.{mulC, mul-right, mul-ranged, splitC, split-right, tconjC, tconj-ranged, tconj-same, few, cliffordI, cliffordX, cliffordS, cliffordW, cliffordH, cliffordHS, cliffordSHS, H-is, HS-is, SHS-is, H-ranged}
+use Rattle.clifford.specs.Cliffords.{mulC, mul-right, mul-ranged, splitC, split-right, tconjC, tconj-ranged, tconj-same, few}
+use Rattle.clifford.specs.Cliffords.{cliffordI, cliffordX, cliffordS, cliffordW, cliffordH, cliffordHS, cliffordSHS}
+use Rattle.clifford.specs.Cliffords.{H-is, HS-is, SHS-is, H-ranged}
 
 -- the syllables with the last one first
 pub record State : Type 0 where
@@ -100,6 +103,12 @@ times-Clifford x y hx hy = by-sym (record { same = mul-right x y hx hy .same })
 gained : (c x : Clifford) (u v : List Letter) → Ranged c → Ranged x → letters c ≈ v → u ≈ v → u ++ letters x ≈ letters (mulC c x)
 gained c x u v hc hx h k = before (k ⨾ by-sym h) (letters x) ⨾ times-Clifford c x hc hx
 
+pub X-ranged : Ranged cliffordX
+X-ranged = few 0 1 0 0 (omega arith) (omega arith) (omega arith) (omega arith)
+
+pub W-ranged : Ranged cliffordW
+W-ranged = few 0 0 0 1 (omega arith) (omega arith) (omega arith) (omega arith)
+
 pub S-ranged : Ranged cliffordS
 S-ranged = few 0 0 1 0 (omega arith) (omega arith) (omega arith) (omega arith)
 
@@ -109,20 +118,30 @@ HS-ranged = few 1 0 2 5 (omega arith) (omega arith) (omega arith) (omega arith)
 pub SHS-ranged : Ranged cliffordSHS
 SHS-ranged = few 2 0 1 3 (omega arith) (omega arith) (omega arith) (omega arith)
 
-tee-same : (a : Axis) (r : Clifford) (b : Bool) (ss : List Syllable) → Ranged r → prefix b ss ++ (axisWord a ++ (T′ ∷ letters r)) ≈ text (tee a r b ss)
+tee-same : (a : Axis) (r : Clifford) (b : Bool) (ss : List Syllable)
+    → Ranged r
+    → prefix b ss ++ (axisWord a ++ (T′ ∷ letters r)) ≈ text (tee a r b ss)
 tee-same Axis.H r b ss h = by-eq (sym (append-assoc (prefix b ss) (H ∷ T′ ∷ []) (letters r)))
 tee-same Axis.SH r b ss h = by-eq (sym (append-assoc (prefix b ss) (S ∷ H ∷ T′ ∷ []) (letters r)))
 tee-same Axis.I r b (HT ∷ ss) h =
+    let same = by-test (H ∷ T′ ∷ T′ ∷ []) (H ∷ S ∷ []) tt in
     by-eq (append-assoc (prefix b ss) (H ∷ T′ ∷ []) (T′ ∷ letters r))
-    ⨾ under (prefix b ss) (gained cliffordHS r (H ∷ T′ ∷ T′ ∷ []) (H ∷ S ∷ []) HS-ranged h HS-is (by-test (H ∷ T′ ∷ T′ ∷ []) (H ∷ S ∷ []) tt))
+    ⨾ under (prefix b ss) (gained cliffordHS r (H ∷ T′ ∷ T′ ∷ []) (H ∷ S ∷ []) HS-ranged h HS-is same)
 tee-same Axis.I r b (SHT ∷ ss) h =
+    let same = by-test (S ∷ H ∷ T′ ∷ T′ ∷ []) (S ∷ H ∷ S ∷ []) tt in
     by-eq (append-assoc (prefix b ss) (S ∷ H ∷ T′ ∷ []) (T′ ∷ letters r))
-    ⨾ under (prefix b ss) (gained cliffordSHS r (S ∷ H ∷ T′ ∷ T′ ∷ []) (S ∷ H ∷ S ∷ []) SHS-ranged h SHS-is (by-test (S ∷ H ∷ T′ ∷ T′ ∷ []) (S ∷ H ∷ S ∷ []) tt))
-tee-same Axis.I r true [] h = gained cliffordS r (T′ ∷ T′ ∷ []) (S ∷ []) S-ranged h (by-refl (S ∷ [])) (by-test (T′ ∷ T′ ∷ []) (S ∷ []) tt)
+    ⨾ under (prefix b ss) (gained cliffordSHS r (S ∷ H ∷ T′ ∷ T′ ∷ []) (S ∷ H ∷ S ∷ []) SHS-ranged h SHS-is same)
+tee-same Axis.I r true [] h =
+    let same = by-test (T′ ∷ T′ ∷ []) (S ∷ []) tt in
+    gained cliffordS r (T′ ∷ T′ ∷ []) (S ∷ []) S-ranged h (by-refl (S ∷ [])) same
 tee-same Axis.I r false [] h = by-refl (T′ ∷ letters r)
 
 -- a Clifford letter goes into the tail
-tail-same : (st : State) (c : Clifford) (u : List Letter) → Ranged (st .q) → Ranged c → letters c ≈ u → text st ++ u ≈ text (state (st .lead) (st .stack) (mulC (st .q) c))
+tail-same : (st : State) (c : Clifford) (u : List Letter)
+    → Ranged (st .q)
+    → Ranged c
+    → letters c ≈ u
+    → text st ++ u ≈ text (state (st .lead) (st .stack) (mulC (st .q) c))
 tail-same st c u hq hc h =
     by-eq (append-assoc (prefix (st .lead) (st .stack)) (letters (st .q)) u)
     ⨾ under (prefix (st .lead) (st .stack)) (under (letters (st .q)) (by-sym h) ⨾ times-Clifford (st .q) c hq hc)
@@ -131,8 +150,8 @@ pub read-same : (l : Letter) (st : State) → Ranged (st .q) → text st ++ (l �
 read-same I st h = under (text st) (by-test (I ∷ []) [] tt) ⨾ by-eq (append-nil (text st))
 read-same H st h = tail-same st cliffordH (H ∷ []) h H-ranged H-is
 read-same S st h = tail-same st cliffordS (S ∷ []) h S-ranged (by-refl (S ∷ []))
-read-same X st h = tail-same st cliffordX (X ∷ []) h (few 0 1 0 0 (omega arith) (omega arith) (omega arith) (omega arith)) (by-refl (X ∷ []))
-read-same W st h = tail-same st cliffordW (W ∷ []) h (few 0 0 0 1 (omega arith) (omega arith) (omega arith) (omega arith)) (by-refl (W ∷ []))
+read-same X st h = tail-same st cliffordX (X ∷ []) h X-ranged (by-refl (X ∷ []))
+read-same W st h = tail-same st cliffordW (W ∷ []) h W-ranged (by-refl (W ∷ []))
 read-same T′ st h =
     by-eq (append-assoc (prefix (st .lead) (st .stack)) (letters (st .q)) (T′ ∷ []))
     ⨾ under (prefix (st .lead) (st .stack)) (tconj-same (st .q) h)
@@ -191,8 +210,9 @@ front-is Axis.SH = refl
 
 tail-is : (x : Clifford) (r : Coset) → Split x r → letters x ≈ tailWord (tailAt r)
 tail-is x r p =
+    let behind = times (r .rest .b) X ++ (times (r .rest .c) S ++ times (r .rest .d) W) in
     record { same = p .same }
-    ⨾ by-eq (ap₂ (λ u v. u ++ v) (sym (front-is (r .axis))) (ap (λ n. cycle n ++ (times (r .rest .b) X ++ (times (r .rest .c) S ++ times (r .rest .d) W))) (p .rest-a)))
+    ⨾ by-eq (ap₂ (λ u n. u ++ (cycle n ++ behind)) (sym (front-is (r .axis))) (p .rest-a))
 
 pub normal-same : (st : State) → Ranged (st .q) → text st ≈ spell (shapeOf st)
 normal-same st h =

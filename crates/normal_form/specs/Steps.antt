@@ -1,5 +1,5 @@
--- The table of two letters, of syllables that a T meets, of Cliffords less their axes and of the letters' numbers: each part proved right by one computed
--- test over its rows. Assumes nothing.
+-- The table of two letters, of syllables that a T meets, of Cliffords less their axes and of the letters' numbers: each part proved right
+-- by one computed test over its rows. Assumes nothing.
 use mathlib.Core.Path.{_≡_, refl, sym, _∙_, ap, subst}
 use mathlib.Core.Bool.{Bool, true, false, cond, _&&_}
 use mathlib.Core.List.{List}
@@ -99,23 +99,45 @@ entryOf rows row g = getD rows (row % 32 * 24 + g) 0
 abbrev pub kindAt : List ℕ → ℕ → ℕ → ℕ
 kindAt rows change g = getD rows (408 + change * 24 + g) 0
 
+abbrev pub syllableEntry : List ℕ → ℕ → ℕ → ℕ
+syllableEntry rows s g = getD rows (480 + s * 24 + g) 0
+
+abbrev pub axisEntry : List ℕ → ℕ → ℕ
+axisEntry rows g = getD rows (576 + g) 0
+
+-- what is tested of an entry, of a row, and of a part
 abbrev pairTest : ℕ → ℕ → ℕ → Letter → Letter → ℕ → ℕ → Bool
 pairTest kind e row l m g p = eqb kind (kind₂ l m (cliffordAt g p)) && gives e (row / 32) p (next₂ l m (cliffordAt g p))
 
+abbrev entriesTest : List ℕ → ℕ → ℕ → Letter → Letter → Bool
+entriesTest rows row change l m = all 24 (λ g. all 8 (pairTest (kindAt rows change g) (entryOf rows row g) row l m g))
+
 abbrev rowTest : List ℕ → ℕ → ℕ → Letter → Letter → Bool
-rowTest rows row change l m = (ltb (row % 32) 17 && ltb change 3) && (ltb row 256 && all 24 (λ g. all 8 (pairTest (kindAt rows change g) (entryOf rows row g) row l m g)))
+rowTest rows row change l m = (ltb (row % 32) 17 && ltb change 3) && (ltb row 256 && entriesTest rows row change l m)
+
+abbrev twoTest : List ℕ → ℕ → ℕ → Bool
+twoTest rows l m = rowTest rows (rowOf rows l m) (changeOf rows l m) (letterAt l) (letterAt m)
 
 abbrev pairsTest : List ℕ → Bool
-pairsTest rows = all 6 (λ l. all 6 (λ m. rowTest rows (rowOf rows l m) (changeOf rows l m) (letterAt l) (letterAt m)))
+pairsTest rows = all 6 (λ l. all 6 (twoTest rows l))
+
+abbrev syllableTest : List ℕ → ℕ → ℕ → ℕ → Bool
+syllableTest rows s g p = gives (syllableEntry rows s g) 0 p (mulC (made (syllableOf s)) (cliffordAt g p))
 
 abbrev syllablesTest : List ℕ → Bool
-syllablesTest rows = all 4 (λ s. all 24 (λ g. all 8 (λ p. gives (getD rows (480 + s * 24 + g) 0) 0 p (mulC (made (syllableOf s)) (cliffordAt g p)))))
+syllablesTest rows = all 4 (λ s. all 24 (λ g. all 8 (syllableTest rows s g)))
+
+abbrev axisTest : List ℕ → ℕ → ℕ → Bool
+axisTest rows g p = gives (axisEntry rows g) 0 p (splitC (cliffordAt g p) .rest)
 
 abbrev axesTest : List ℕ → Bool
-axesTest rows = all 24 (λ g. all 8 (λ p. gives (getD rows (576 + g) 0) 0 p (splitC (cliffordAt g p) .rest)))
+axesTest rows = all 24 (λ g. all 8 (axisTest rows g))
+
+abbrev letterTest : List ℕ → ℕ → Bool
+letterTest rows k = eqb (getD rows (672 + k) 0) (letterNumber (letterOf (k + 72)))
 
 abbrev lettersTest : List ℕ → Bool
-lettersTest rows = all 17 (λ k. eqb (getD rows (672 + k) 0) (letterNumber (letterOf (k + 72))))
+lettersTest rows = all 17 (letterTest rows)
 
 pub record Right (rows : List ℕ) : Type 0 where
   pub long : length rows ≡ 689
@@ -124,7 +146,10 @@ pub record Right (rows : List ℕ) : Type 0 where
   pub axes : T (axesTest rows)
   pub letters : T (lettersTest rows)
 
-pub right : {rows : List ℕ} → length rows ≡ 689 → T ((pairsTest rows && syllablesTest rows) && (axesTest rows && lettersTest rows)) → Right rows
+pub right : {rows : List ℕ}
+    → length rows ≡ 689
+    → T ((pairsTest rows && syllablesTest rows) && (axesTest rows && lettersTest rows))
+    → Right rows
 right {rows} l t =
     let s = and-yes (pairsTest rows && syllablesTest rows) (axesTest rows && lettersTest rows) t in
     let u = and-yes (pairsTest rows) (syllablesTest rows) (s .0) in
@@ -146,14 +171,12 @@ module _ (rows : List ℕ) (right : Right rows) (first second : ℕ) (hf : first
   change = changeOf rows first second
 
   abbrev entries : Bool
-  entries = all 24 (λ g. all 8 (pairTest (kindAt rows change g) (entryOf rows row g) row (letterAt first) (letterAt second) g))
+  entries = entriesTest rows row change (letterAt first) (letterAt second)
 
   tested : (T (ltb (row % 32) 17) × T (ltb change 3)) × (T (ltb row 256) × T entries)
   tested =
-      let s =
-      and-yes (ltb (row % 32) 17 && ltb change 3) (ltb row 256 && entries)
-      (at 6 (λ m. rowTest rows (rowOf rows first m) (changeOf rows first m) (letterAt first) (letterAt m))
-      (at 6 (λ l. all 6 (λ m. rowTest rows (rowOf rows l m) (changeOf rows l m) (letterAt l) (letterAt m))) (right .pairs) first hf) second hs) in
+      let t = at 6 (twoTest rows first) (at 6 (λ l. all 6 (twoTest rows l)) (right .pairs) first hf) second hs in
+      let s = and-yes (ltb (row % 32) 17 && ltb change 3) (ltb row 256 && entries) t in
       (and-yes (ltb (row % 32) 17) (ltb change 3) (s .0), and-yes (ltb row 256) entries (s .1))
 
   pub row-few : rowOf rows first second % 32 < 17
@@ -165,8 +188,18 @@ module _ (rows : List ℕ) (right : Right rows) (first second : ℕ) (hf : first
   pub more-few : rowOf rows first second / 32 < 8
   more-few = omega (arith, ltb→lt row 256 (tested .1 .0))
 
-  pub stepped : (t : Tail) → Fits t → (r : Step) → r .kind ≡ kindAt rows (changeOf rows first second) (t .code) → r .tail ≡ moved t (entryOf rows (rowOf rows first second) (t .code)) (rowOf rows first second / 32) → Stepped (letterAt first) (letterAt second) t r
-  stepped t h r k e = record { kind-is = k ∙ eqb→eq kind (kind₂ l m (tailOf t)) (s .0); tail-is = ap tailOf e ∙ g .1; fits = subst Fits (sym e) (g .0) }
+  pub stepped : (t : Tail)
+      → Fits t
+      → (r : Step)
+      → r .kind ≡ kindAt rows (changeOf rows first second) (t .code)
+      → r .tail ≡ moved t (entryOf rows (rowOf rows first second) (t .code)) (rowOf rows first second / 32)
+      → Stepped (letterAt first) (letterAt second) t r
+  stepped t h r k e =
+      record {
+        kind-is = k ∙ eqb→eq kind (kind₂ l m (tailOf t)) (s .0);
+        tail-is = ap tailOf e ∙ g .1;
+        fits = subst Fits (sym e) (g .0);
+      }
     where
       kind : ℕ
       kind = kindAt rows change (t .code)
@@ -180,41 +213,46 @@ module _ (rows : List ℕ) (right : Right rows) (first second : ℕ) (hf : first
       m : Letter
       m = letterAt second
 
+      one : T (all 8 (pairTest kind entry row l m (t .code)))
+      one = at 24 (λ g. all 8 (pairTest (kindAt rows change g) (entryOf rows row g) row l m g)) (tested .1 .1) (t .code) (h .code-few)
+
       s : T (eqb kind (kind₂ l m (tailOf t))) × T (gives entry (row / 32) (t .phase) (next₂ l m (tailOf t)))
       s =
           and-yes (eqb kind (kind₂ l m (tailOf t))) (gives entry (row / 32) (t .phase) (next₂ l m (tailOf t)))
-          (at 8 (pairTest kind entry row l m (t .code))
-          (at 24 (λ g. all 8 (pairTest (kindAt rows change g) (entryOf rows row g) row l m g)) (tested .1 .1) (t .code) (h .code-few)) (t .phase) (h .phase-few))
+          (at 8 (pairTest kind entry row l m (t .code)) one (t .phase) (h .phase-few))
 
       g : Fits (moved t entry (row / 32)) × (tailOf (moved t entry (row / 32)) ≡ next₂ l m (tailOf t))
       g = given entry (row / 32) t (next₂ l m (tailOf t)) (s .1)
-
-module _ (rows : List ℕ) (right : Right rows) (t : Tail) (h : Fits t) where
-  -- ---- a syllable that a T meets
-  pub syllable-row : (s : ℕ) → s < 4 → Fits (moved t (getD rows (480 + s * 24 + t .code) 0) 0) × (tailOf (moved t (getD rows (480 + s * 24 + t .code) 0) 0) ≡ mulC (made (syllableOf s)) (tailOf t))
-  syllable-row s k =
-      given (getD rows (480 + s * 24 + t .code) 0) 0 t (mulC (made (syllableOf s)) (tailOf t))
-      (at 8 (here s (t .code)) (at 24 (λ g. all 8 (here s g)) (at 4 (λ s. all 24 (λ g. all 8 (here s g))) (right .syllables) s k) (t .code) (h .code-few)) (t .phase) (h .phase-few))
-    where
-      here : ℕ → ℕ → ℕ → Bool
-      here s g p = gives (getD rows (480 + s * 24 + g) 0) 0 p (mulC (made (syllableOf s)) (cliffordAt g p))
-
-  -- ---- a Clifford less its axis
-  pub axis-row : tailOf (moved t (getD rows (576 + t .code) 0) 0) ≡ splitC (tailOf t) .rest
-  axis-row =
-      given (getD rows (576 + t .code) 0) 0 t (splitC (tailOf t) .rest)
-      (at 8 (here (t .code)) (at 24 (λ g. all 8 (here g)) (right .axes) (t .code) (h .code-few)) (t .phase) (h .phase-few))
-      .1
-    where
-      here : ℕ → ℕ → Bool
-      here g p = gives (getD rows (576 + g) 0) 0 p (splitC (cliffordAt g p) .rest)
 
 pub record Gained (s : ℕ) (t r : Tail) : Type 0 where
   pub tail-is : tailOf r ≡ mulC (made (syllableOf s)) (tailOf t)
   pub fits : Fits r
 
-pub gained : (rows : List ℕ) → Right rows → (t : Tail) → Fits t → (s : ℕ) → s < 4 → (r : Tail) → r ≡ moved t (getD rows (480 + s * 24 + t .code) 0) 0 → Gained s t r
-gained rows right t h s k r e = let g = syllable-row rows right t h s k in rw e (record { tail-is = g .1; fits = g .0 })
+module _ (rows : List ℕ) (right : Right rows) (t : Tail) (h : Fits t) where
+  -- ---- a syllable that a T meets
+  pub gained : (s : ℕ) → s < 4 → (r : Tail) → r ≡ moved t (syllableEntry rows s (t .code)) 0 → Gained s t r
+  gained s k r e = rw e (record { tail-is = g .1; fits = g .0 })
+    where
+      one : T (all 8 (syllableTest rows s (t .code)))
+      one =
+          at 24 (λ g. all 8 (syllableTest rows s g))
+          (at 4 (λ s. all 24 (λ g. all 8 (syllableTest rows s g))) (right .syllables) s k) (t .code) (h .code-few)
+
+      there : Tail
+      there = moved t (syllableEntry rows s (t .code)) 0
+
+      g : Fits there × (tailOf there ≡ mulC (made (syllableOf s)) (tailOf t))
+      g =
+          given (syllableEntry rows s (t .code)) 0 t (mulC (made (syllableOf s)) (tailOf t))
+          (at 8 (syllableTest rows s (t .code)) one (t .phase) (h .phase-few))
+
+  -- ---- a Clifford less its axis
+  axis-row : tailOf (moved t (axisEntry rows (t .code)) 0) ≡ splitC (tailOf t) .rest
+  axis-row =
+      given (axisEntry rows (t .code)) 0 t (splitC (tailOf t) .rest)
+      (at 8 (axisTest rows (t .code))
+      (at 24 (λ g. all 8 (axisTest rows g)) (right .axes) (t .code) (h .code-few)) (t .phase) (h .phase-few))
+      .1
 
 abbrev pub axisAt : ℕ → Axis
 axisAt zero = Axis.I
@@ -226,17 +264,27 @@ axis-last zero f g = absurd (f refl)
 axis-last (suc zero) f g = absurd (g refl)
 axis-last (suc (suc n)) f g = refl
 
-pub split-at : (rows : List ℕ) → Right rows → (t : Tail) → Fits t → (axis : Axis) (rest : Tail) → axis ≡ axisAt (t .code / 8) → rest ≡ moved t (getD rows (576 + t .code) 0) 0 → _≡_ {A = Coset} (record { axis = axis; rest = tailOf rest }) (splitC (tailOf t))
+axisAt-is : (n : ℕ) → n < 3 → axisNumber (axisAt n) ≡ n
+axisAt-is zero l = refl
+axisAt-is (suc zero) l = refl
+axisAt-is (suc (suc zero)) l = refl
+axisAt-is (suc (suc (suc n))) l = absurd (omega arith)
+
+pub split-at : (rows : List ℕ)
+    → Right rows
+    → (t : Tail)
+    → Fits t
+    → (axis : Axis) (rest : Tail)
+    → axis ≡ axisAt (t .code / 8)
+    → rest ≡ moved t (axisEntry rows (t .code)) 0
+    → _≡_ {A = Coset} (record { axis = axis; rest = tailOf rest }) (splitC (tailOf t))
 split-at rows right t h axis rest e f = λ i. record { axis = axes i; rest = rests i }
   where
-    number : (n : ℕ) → n < 3 → axisNumber (axisAt n) ≡ n
-    number zero l = refl
-    number (suc zero) l = refl
-    number (suc (suc zero)) l = refl
-    number (suc (suc (suc n))) l = absurd (omega arith)
-
     axes : axis ≡ splitC (tailOf t) .axis
-    axes = e ∙ axis-at (axisAt (t .code / 8)) (splitC (tailOf t) .axis) (number (t .code / 8) (omega (arith, h .code-few)) ∙ sym (split-right (tailOf t) (fits-ranged t h) .axis-is))
+    axes =
+        e
+        ∙ axis-at (axisAt (t .code / 8)) (splitC (tailOf t) .axis)
+        (axisAt-is (t .code / 8) (omega (arith, h .code-few)) ∙ sym (split-right (tailOf t) (fits-ranged t h) .axis-is))
 
     rests : tailOf rest ≡ splitC (tailOf t) .rest
     rests = ap tailOf f ∙ axis-row rows right t h
@@ -244,11 +292,18 @@ split-at rows right t h axis rest e f = λ i. record { axis = axes i; rest = res
 -- ---- the number of a byte
 pub number-in : (rows : List ℕ) → Right rows → (b : ℕ) → 72 ≤ b → b ≤ 88 → getD rows (672 + (b - 72)) 0 ≡ letterNumber (letterOf b)
 number-in rows right b l h =
-    eqb→eq (getD rows (672 + (b - 72)) 0) (letterNumber (letterOf (b - 72 + 72))) (at 17 (λ k. eqb (getD rows (672 + k) 0) (letterNumber (letterOf (k + 72)))) (right .letters) (b - 72) (omega arith))
+    eqb→eq (getD rows (672 + (b - 72)) 0) (letterNumber (letterOf (b - 72 + 72)))
+    (at 17 (letterTest rows) (right .letters) (b - 72) (omega arith))
     ∙ ap (λ n. letterNumber (letterOf n)) (back b l)
   where
     back : (b : ℕ) → 72 ≤ b → b - 72 + 72 ≡ b
     back b l = omega arith
 
-pub number-out : (b : ℕ) → (b ≡ 72 → ⊥) → (b ≡ 83 → ⊥) → (b ≡ 88 → ⊥) → (b ≡ 87 → ⊥) → (b ≡ 84 → ⊥) → 5 ≡ letterNumber (letterOf b)
+number-out : (b : ℕ) → (b ≡ 72 → ⊥) → (b ≡ 83 → ⊥) → (b ≡ 88 → ⊥) → (b ≡ 87 → ⊥) → (b ≡ 84 → ⊥) → 5 ≡ letterNumber (letterOf b)
 number-out b h s x w t = rw (ne-eqb b 72 h, ne-eqb b 83 s, ne-eqb b 88 x, ne-eqb b 87 w, ne-eqb b 84 t)
+
+pub number-low : (b : ℕ) → b < 72 → 5 ≡ letterNumber (letterOf b)
+number-low b l = number-out b (λ e. omega arith) (λ e. omega arith) (λ e. omega arith) (λ e. omega arith) (λ e. omega arith)
+
+pub number-high : (b : ℕ) → 88 < b → 5 ≡ letterNumber (letterOf b)
+number-high b l = number-out b (λ e. omega arith) (λ e. omega arith) (λ e. omega arith) (λ e. omega arith) (λ e. omega arith)

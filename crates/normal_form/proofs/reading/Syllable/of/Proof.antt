@@ -1,4 +1,5 @@
 -- `normal_form::reading::Syllable::of` meets its contract. Assumes nothing.
+use borrow.Author.Needs.{needs}
 use Rattle.normal_form.specs.Syllables.{syllable-none}
 use Rattle.normal_form.proofs.reading.Syllable.of.Statement.{statement}
 use Rattle.normal_form.proofs.reading.Syllable.of.Tie as tie
@@ -13,7 +14,7 @@ returns-3 : tie.Need-returns-3
 returns-3 c = rw (c .if3 .taken)
 
 returns-4 : tie.Need-returns-4
-returns-4 c = syllable-none (c .before .before .before .args .code) (c .before .before .if1 .left) (c .before .if2 .left) (c .if3 .left)
+returns-4 c = search (needs, syllable-none)
 
 pub of-spec : {M : Type 1} → statement M
 of-spec = tie.close (tie.spec returns returns-2 returns-3 returns-4)

@@ -1,6 +1,5 @@
 -- `normal_form::steps::Tail::behind` meets its contract. Assumes nothing.
 use borrow.Author.Needs.{needs}
-use denote.Ref.{now}
 use Rattle.normal_form.specs.Steps.{gained}
 use Rattle.normal_form.proofs.steps.Tail.behind.Statement.{statement}
 use Rattle.normal_form.proofs.steps.Tail.behind.Tie as tie
@@ -24,10 +23,7 @@ moved-requires : tie.Need-moved-requires
 moved-requires c κs = search needs
 
 returns : tie.Need-returns
-returns c =
-    let a = c .before .before .before .before .args in
-    let the-pre = c .before .before .before .before .pre in
-    gained (now (a .table)) (the-pre .0) (a .self) (the-pre .1 .0) (a .syllable) (the-pre .1 .1) (c .moved .result) (c .moved .ensures)
+returns c = search (needs, gained)
 
 pub behind-spec : {M : Type 1} → statement M
 behind-spec =

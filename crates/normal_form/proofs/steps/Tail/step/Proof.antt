@@ -1,15 +1,18 @@
 -- `normal_form::steps::Tail::step` meets its contract. Assumes nothing.
-use mathlib.Core.Path.{refl}
-use Prim.Native.Nat.{_<_}
+use Prim.Native.Nat.{_%_, _<_}
 use native.Mathlib.Omega.{arith}
 use borrow.Author.Needs.{needs}
 use denote.Ref.{now}
-use Rattle.normal_form.specs.Steps.{changeOf, row-few, change-few, more-few, stepped}
+use Rattle.normal_form.specs.Steps.{changeOf, rowOf, row-few, change-few, more-few, stepped}
 use Rattle.normal_form.proofs.steps.Tail.step.Statement.{statement}
 use Rattle.normal_form.proofs.steps.Tail.step.Tie as tie
 
-few-change : (s : tie.Start) → changeOf (now (s .args .table)) (s .args .first) (s .args .second) < 3
-few-change s = let a = s .args in change-few (now (a .table)) (s .pre .0) (a .first) (a .second) (s .pre .1 .1 .0) (s .pre .1 .1 .1)
+module _ (s : tie.Start) where
+  few-change : changeOf (now (s .args .table)) (s .args .first) (s .args .second) < 3
+  few-change = search (needs, change-few)
+
+  few-rows : rowOf (now (s .args .table)) (s .args .first) (s .args .second) % 32 < 17
+  few-rows = search (needs, row-few)
 
 mul-pair : tie.Need-mul-pair
 mul-pair c = search needs
@@ -42,10 +45,10 @@ cast-kind-2 : tie.Need-cast-kind-2
 cast-kind-2 c = search needs
 
 add-kind-2 : tie.Need-add-kind-2
-add-kind-2 c = omega (arith, few-change (c .before .before .before .before), c .before .before .before .before .pre .1 .0 .code-few)
+add-kind-2 c = omega (arith, few-change (c .before .before .before .before))
 
 shared-slice-read-kind : tie.Need-shared-slice-read-kind
-shared-slice-read-kind c = omega (arith, few-change (c .before .before .before .before .before), c .before .before .before .before .before .pre .1 .0 .code-few, c .before .before .before .before .before .pre .0 .long)
+shared-slice-read-kind c = omega (arith, few-change (c .before .before .before .before .before))
 
 cast-entry : tie.Need-cast-entry
 cast-entry c = search needs
@@ -60,19 +63,15 @@ add-entry : tie.Need-add-entry
 add-entry c = search needs
 
 shared-slice-read-entry : tie.Need-shared-slice-read-entry
-shared-slice-read-entry c = let s = c .before .before .before .before .before .before .before in let a = s .args in omega (arith, row-few (now (a .table)) (s .pre .0) (a .first) (a .second) (s .pre .1 .1 .0) (s .pre .1 .1 .1), s .pre .1 .0 .code-few, s .pre .0 .long)
+shared-slice-read-entry c =
+    let the-kind = c .before .before .before .before in
+    omega (arith, few-rows (the-kind .before .before .before))
 
 moved-requires : tie.Need-moved-requires
-moved-requires c κs =
-    let s = c .before .before .before .before .before .before .before in
-    let a = s .args in
-    (s .pre .1 .0, more-few (now (a .table)) (s .pre .0) (a .first) (a .second) (s .pre .1 .1 .0) (s .pre .1 .1 .1))
+moved-requires c κs = search (needs, more-few)
 
 returns : tie.Need-returns
-returns c =
-    let s = c .before .before .before .before .before .before .before .before in
-    let a = s .args in
-    stepped (now (a .table)) (s .pre .0) (a .first) (a .second) (s .pre .1 .1 .0) (s .pre .1 .1 .1) (a .self) (s .pre .1 .0) _ refl (c .moved .ensures)
+returns c = search (needs, stepped)
 
 pub step-spec : {M : Type 1} → statement M
 step-spec =
