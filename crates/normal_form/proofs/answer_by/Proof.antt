@@ -8,7 +8,7 @@ slice-aggregate-read-and-write : tie.Need-slice-aggregate-read-and-write
 slice-aggregate-read-and-write c = search needs
 
 read-and-write-requires : tie.Need-read-and-write-requires
-read-and-write-requires c κs = search (needs, blank)
+read-and-write-requires c κs = (search needs, (blank 4096, (search needs, search needs)))
 
 same-length : tie.Need-same-length
 same-length c = search needs
@@ -20,7 +20,7 @@ slice-aggregate-read-and-write-2 : tie.Need-slice-aggregate-read-and-write-2
 slice-aggregate-read-and-write-2 c = search needs
 
 read-and-write-requires-2 : tie.Need-read-and-write-requires-2
-read-and-write-requires-2 c κs = search (needs, blank)
+read-and-write-requires-2 c κs = (search needs, (blank 64, (search needs, search needs)))
 
 same-length-2 : tie.Need-same-length-2
 same-length-2 c = search needs
