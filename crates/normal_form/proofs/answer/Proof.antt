@@ -1,6 +1,5 @@
 -- `normal_form::answer` meets its contract. Assumes nothing.
 use mathlib.Core.Path.{refl}
-use native.Mathlib.Omega.{arith}
 use borrow.Author.Needs.{needs}
 use Rattle.clifford.specs.Cliffords.{mulC, invC, tconjC}
 use Rattle.normal_form.specs.Outcome.{too-long}
