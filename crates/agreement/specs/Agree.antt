@@ -114,4 +114,5 @@ job4-there m old =
 pub second-there : (m : FromGates) (old : List ℕ) (r : Written) (new : List ℕ) → Second m old r new → r .bytes ≤ length new
 second-there m old r new =
     always (untouched Job3.refused old) (HandsOn (Job4Of m old) handedOn) (λ (x : Lent Written). x .handed .bytes ≤ length (x .buffer))
-    (λ n p. omega arith) (λ x h. rw (h .is) (job4-there m old (h .job) (h .outcome))) (earlier m then none) (lent r new)
+    (λ n p. omega arith) (earlier m then none)
+    (λ g x h. rw (h .is) (job4-there m old (h .job) (h .outcome))) (lent r new)

@@ -59,4 +59,4 @@ viewed o h =
 
 pub finite : (k : ℤ) (n : ℕ) (z w : ZOmega) (o : Answer) → ViewOutcome k n z w o → Finite (o .view)
 finite k n z w =
-    always refused (Views (given k n z w)) (λ (o : Answer). Finite (o .view)) (λ n p. zeros) viewed (checks k (quad z) (quad w))
+    always refused (Views (given k n z w)) (λ (o : Answer). Finite (o .view)) (λ n p. zeros) (checks k (quad z) (quad w)) (λ h. viewed)

@@ -1,8 +1,6 @@
--- What each export promises, over the promises of the jobs.
-pub mod Numbers
-pub mod Words
-pub mod Cliffords
-pub mod Views
-pub mod Synthesis
+-- What each export promises, over the promises of the jobs (`Exports`, `Bench`), and what its proof leans on.
+pub mod Exports
+pub mod Handed
 pub mod Bench
+pub mod Record
 pub mod Unique

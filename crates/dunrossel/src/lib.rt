@@ -3,12 +3,13 @@ ghost use mathlib.Core.Path.{_≡_};
 ghost use Prim.Native.Nat.{_≤_};
 ghost use lib.ListN.{length};
 ghost use Rattle.exact.specs.Meaning.Limits.{enough};
-ghost use Rattle.dunrossel.specs.Numbers.{zOf, wOf, ten, Wide, Reduces, Multiplies};
-ghost use Rattle.dunrossel.specs.Synthesis.{countsOf, Synthesises};
-ghost use Rattle.dunrossel.specs.Bench.{Answers, BenchOutcome};
-ghost use Rattle.dunrossel.specs.Views.{eightOf, Views};
-ghost use Rattle.dunrossel.specs.Words.{counts, Writes};
-ghost use Rattle.dunrossel.specs.Cliffords.{Narrow, listed, fourOf, fiveOf, Multiplied, Inverted, Parted};
+ghost use Rattle.exact.specs.Meaning.Lent.{lent};
+ghost use Rattle.dunrossel.specs.Exports.{zOf, wOf, ten, Reduces, Multiplies, eightOf, Views};
+ghost use Rattle.dunrossel.specs.Exports.{counts, Writes, countsOf, Synthesises};
+ghost use Rattle.dunrossel.specs.Exports.{fourOf, fiveOf, Multiplied, Inverted, Parted};
+ghost use Rattle.dunrossel.specs.Handed.{Wide, listed};
+ghost use Rattle.dunrossel.specs.Bench.{NumbersOutcome, BenchOutcome};
+ghost use Rattle.record.specs.Meaning.{numbers};
 ghost use Rattle.clifford.specs.Job6.{axisNumber};
 ghost use Rattle.normal_form.specs.Outcome.{Normalises, Shortens};
 use clifford::Axis;
@@ -62,7 +63,7 @@ fn put_ten(t: DOmegaUnitary, out: &mut [i64; 10])
 
 #[no_mangle]
 pub extern "C" fn dunrossel_reduce(k: i64, n: u8, zw: &[i64; 8], out: &mut [i64; 10]) -> u8
-    ensures { λ r. ⌜ Reduces k n (now (zw .entry)) r (now (out .exit)) ⌝ }
+    ensures { λ r. ⌜ Reduces k n (now (zw .entry)) (r, now (out .exit)) ⌝ }
 {
     let z = z_of(zw);
     let w = w_of(zw);
@@ -74,7 +75,7 @@ pub extern "C" fn dunrossel_reduce(k: i64, n: u8, zw: &[i64; 8], out: &mut [i64;
 
 #[no_mangle]
 pub extern "C" fn dunrossel_matrix(word: &[u8], out: &mut [i64; 10], place: &mut u64) -> u8
-    ensures { λ r. ⌜ Multiplies (now (word .entry)) r (now (out .exit)) (now (place .exit)) ⌝ }
+    ensures { λ r. ⌜ Multiplies (now (word .entry)) (r, (now (out .exit), now (place .exit))) ⌝ }
 {
     let answer = unitary::from_gates(word);
     let matrix = answer.matrix;
@@ -91,7 +92,7 @@ fn put_counts(answer: Written, out: &mut [u64; 3])
 
 #[no_mangle]
 pub extern "C" fn dunrossel_normalise(word: &[u8], buf: &mut [u8], out: &mut [u64; 3]) -> u8
-    ensures { λ r. ⌜ Writes Normalises (now (word .entry)) (now (buf .entry)) r (now (out .exit)) (now (buf .exit)) ⌝ }
+    ensures { λ r. ⌜ Writes Normalises (now (word .entry)) (now (buf .entry)) (r, (now (out .exit), now (buf .exit))) ⌝ }
 {
     let answer = normal_form::normalise(word, buf);
     put_counts(answer, out);
@@ -100,7 +101,7 @@ pub extern "C" fn dunrossel_normalise(word: &[u8], buf: &mut [u8], out: &mut [u6
 
 #[no_mangle]
 pub extern "C" fn dunrossel_phase_free(word: &[u8], buf: &mut [u8], out: &mut [u64; 3]) -> u8
-    ensures { λ r. ⌜ Writes Shortens (now (word .entry)) (now (buf .entry)) r (now (out .exit)) (now (buf .exit)) ⌝ }
+    ensures { λ r. ⌜ Writes Shortens (now (word .entry)) (now (buf .entry)) (r, (now (out .exit), now (buf .exit))) ⌝ }
 {
     let answer = normal_form::phase_free(word, buf);
     put_counts(answer, out);
@@ -108,7 +109,7 @@ pub extern "C" fn dunrossel_phase_free(word: &[u8], buf: &mut [u8], out: &mut [u
 }
 
 fn narrow(x: u8) -> i32
-    ensures { λ r. ⌜ Narrow x r ⌝ }
+    ensures { λ r. ⌜ Wide x r ⌝ }
 {
     x as i32
 }
@@ -210,7 +211,7 @@ fn put_view(v: View, out: &mut [f64; 8])
 
 #[no_mangle]
 pub extern "C" fn dunrossel_view(k: i64, n: u8, zw: &[i64; 8], out: &mut [f64; 8]) -> u8
-    ensures { λ r. ⌜ Views k n (now (zw .entry)) r (now (out .exit)) ⌝ }
+    ensures { λ r. ⌜ Views k n (now (zw .entry)) (r, now (out .exit)) ⌝ }
 {
     let z = z_of(zw);
     let w = w_of(zw);
@@ -234,7 +235,7 @@ pub extern "C" fn dunrossel_synthesise(
     buf: &mut [u8],
     out: &mut [u64; 3],
 ) -> u8
-    ensures { λ r. ⌜ Synthesises k n (now (zw .entry)) (now (buf .entry)) r (now (out .exit)) (now (buf .exit)) ⌝ }
+    ensures { λ r. ⌜ Synthesises k n (now (zw .entry)) (now (buf .entry)) (r, (now (out .exit), now (buf .exit))) ⌝ }
 {
     let z = z_of(zw);
     let w = w_of(zw);
@@ -246,7 +247,7 @@ pub extern "C" fn dunrossel_synthesise(
 // The answer to a right record, by job 4.
 fn answer_record(r: Record, word: &mut [u8], out: &mut [u8]) -> usize
     requires { ⌜ enough ≤ length (now word) ⌝ ∗ ⌜ 512 ≤ length (now out) ⌝ }
-    ensures { λ size. ⌜ Answers r (now (out .entry)) size (now (out .exit)) ⌝ }
+    ensures { λ size. ⌜ NumbersOutcome (numbers r) (now (out .entry)) (lent size (now (out .exit))) ⌝ }
 {
     let z = ZOmega {
         a: r.za,

@@ -50,7 +50,7 @@ has-normal u = let a = answers true u in record { v = textOf true (run start u);
 pub never-adds : (u : List Letter) (old : List ℕ) (r : Written) (new : List ℕ) → NormaliseOutcome (bytes u) old r new → r .tees ≤ tees u
 never-adds u old r new o =
     always (untouched refused old) (Writes bytes counts (Spelled Normalises (bytes u)) old)
-    (λ x. x .handed .tees ≤ tees u) (λ n p. omega arith) fewest (wordRefusals Normalises (bytes u) old) (lent r new) o
+    (λ x. x .handed .tees ≤ tees u) (λ n p. omega arith) (wordRefusals Normalises (bytes u) old) (λ h. fewest) (lent r new) o
   where
     fewest : (x : Lent Written) → Writes bytes counts (Spelled Normalises (bytes u)) old x → x .handed .tees ≤ tees u
     fewest x a =

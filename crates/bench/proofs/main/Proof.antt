@@ -1,15 +1,10 @@
 -- `bench::main` meets its contract: what it lends is there.
 use mathlib.Core.Path.{sym}
 use lib.Seq.{length-take-le}
-use Rattle.dunrossel.specs.Bench.{bench-fits}
+use Rattle.dunrossel.specs.Record.{bench-fits}
 use borrow.Author.Needs.{needs}
 use Rattle.bench.proofs.main.Statement.{statement}
 use Rattle.bench.proofs.main.Tie as tie
-use Rattle.bench.proofs.main.Reads as reads
-use Rattle.bench.proofs.main.Lts as lts
-use Rattle.dunrossel.proofs.dunrossel_bench.Reads as dunrossel-bench-reads
-use Rattle.io.proofs.read_full.Reads as read-full-reads
-use Rattle.io.proofs.write_all.Reads as write-all-reads
 
 slice-aggregate-read-full : tie.Need-slice-aggregate-read-full
 slice-aggregate-read-full c = search needs
@@ -27,10 +22,12 @@ dunrossel-bench-requires : tie.Need-dunrossel-bench-requires
 dunrossel-bench-requires c κs = search needs
 
 array-share-prefix-out : tie.Need-array-share-prefix-out
-array-share-prefix-out c = bench-fits (c .dunrossel-bench .ensures)
+array-share-prefix-out c = search (needs, bench-fits)
 
 slice-aggregate-write-all : tie.Need-slice-aggregate-write-all
-slice-aggregate-write-all c = sym (length-take-le (c .before .dunrossel-bench .result) (c .before .dunrossel-bench .last .1 .0) (bench-fits (c .before .dunrossel-bench .ensures)))
+slice-aggregate-write-all c =
+    let d = c .before .dunrossel-bench in
+    sym (length-take-le (d .result) (d .last .1 .0) (bench-fits _ _ _ _ (d .ensures)))
 
 write-all-requires : tie.Need-write-all-requires
 write-all-requires c κs = search needs

@@ -1,7 +1,5 @@
 -- `dunrossel::dunrossel_view` meets its contract: job 7 on the numbers of the array.
-use mathlib.Core.Path.{refl}
-use mir.Facts.{toZ-ofZ}
-use Rattle.dunrossel.specs.Views.{view-as}
+use Rattle.dunrossel.specs.Handed.{views}
 use borrow.Author.Needs.{needs}
 use Rattle.dunrossel.proofs.dunrossel_view.Statement.{statement}
 use Rattle.dunrossel.proofs.dunrossel_view.Tie as tie
@@ -19,9 +17,7 @@ put-view-requires : tie.Need-put-view-requires
 put-view-requires c κs = search needs
 
 returns : tie.Need-returns
-returns c =
-    let s = c .before .before .before .before .before .before in
-    record { job = c .before .before .before .view .result; outcome = view-as (toZ-ofZ (s .fits .k)) (c .before .before .before .before .before .z-of .ensures) (c .before .before .before .before .w-of .ensures) (c .before .before .before .view .ensures); refusal-is = refl; out-is = c .put-view .ensures }
+returns c = search (needs, views)
 
 pub dunrossel-view-spec : {M : Type 1} → statement M
 dunrossel-view-spec =

@@ -1,5 +1,5 @@
 -- `dunrossel::narrow` meets its contract: a byte fits.
-use Rattle.dunrossel.specs.Cliffords.{narrow-is}
+use Rattle.dunrossel.specs.Handed.{narrow-is}
 use borrow.Author.Needs.{needs}
 use Rattle.dunrossel.proofs.narrow.Statement.{statement}
 use Rattle.dunrossel.proofs.narrow.Tie as tie

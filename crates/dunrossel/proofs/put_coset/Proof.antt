@@ -2,7 +2,7 @@
 use mathlib.Core.Path.{_∙_, ap}
 use mathlib.Core.List.{[], _∷_}
 use lib.IntN.{pos}
-use Rattle.dunrossel.specs.Cliffords.{narrow-held}
+use Rattle.dunrossel.specs.Handed.{narrow-held}
 use borrow.Author.Needs.{needs}
 use Rattle.dunrossel.proofs.put_coset.Statement.{statement}
 use Rattle.dunrossel.proofs.put_coset.Tie as tie
@@ -26,7 +26,15 @@ narrow-requires-5 : tie.Need-narrow-requires-5
 narrow-requires-5 c κs = search needs
 
 returns : tie.Need-returns
-returns c = λ i. (narrow-held (c .before .before .before .before .before .narrow .ensures) ∙ ap pos (c .before .before .before .before .before .before .axis-number .ensures)) i ∷ narrow-held (c .before .before .before .before .narrow2 .ensures) i ∷ narrow-held (c .before .before .before .narrow3 .ensures) i ∷ narrow-held (c .before .before .narrow4 .ensures) i ∷ narrow-held (c .before .narrow5 .ensures) i ∷ []
+returns c =
+    let b = c .before .before .before in
+    let e = b .before .before in
+    let axis = narrow-held (e .narrow .ensures) ∙ ap pos (e .before .axis-number .ensures) in
+    let q = narrow-held (b .before .narrow2 .ensures) in
+    let r = narrow-held (b .narrow3 .ensures) in
+    let s = narrow-held (c .before .before .narrow4 .ensures) in
+    let t = narrow-held (c .before .narrow5 .ensures) in
+    λ i. axis i ∷ q i ∷ r i ∷ s i ∷ t i ∷ []
 
 pub put-coset-spec : {M : Type 1} → statement M
 put-coset-spec =

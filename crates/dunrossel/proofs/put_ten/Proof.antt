@@ -1,6 +1,6 @@
 -- `dunrossel::put_ten` meets its contract: each number as it is.
 use mathlib.Core.List.{[], _∷_}
-use Rattle.dunrossel.specs.Numbers.{wide-held, held-is}
+use Rattle.dunrossel.specs.Handed.{wide-held, four-held}
 use borrow.Author.Needs.{needs}
 use Rattle.dunrossel.proofs.put_ten.Statement.{statement}
 use Rattle.dunrossel.proofs.put_ten.Tie as tie
@@ -13,8 +13,14 @@ wide-requires-2 c κs = search needs
 
 returns : tie.Need-returns
 returns c =
-    let t = c .before .before .before .before .before .before .args .t in
-    λ i. wide-held (c .before .before .before .wide .ensures) i ∷ wide-held (c .before .before .wide2 .ensures) i ∷ held-is (t .z .a) (c .before .struct-told .given .0 .1) i ∷ held-is (t .z .b) (c .before .struct-told .given .1 .0 .1) i ∷ held-is (t .z .c) (c .before .struct-told .given .1 .1 .0 .1) i ∷ held-is (t .z .d) (c .before .struct-told .given .1 .1 .1 .0 .1) i ∷ held-is (t .w .a) (c .struct-told2 .given .0 .1) i ∷ held-is (t .w .b) (c .struct-told2 .given .1 .0 .1) i ∷ held-is (t .w .c) (c .struct-told2 .given .1 .1 .0 .1) i ∷ held-is (t .w .d) (c .struct-told2 .given .1 .1 .1 .0 .1) i ∷ []
+    let b = c .before .before in
+    let z = c .before .struct-told .given in
+    let w = c .struct-told2 .given in
+    let k-is = wide-held (b .before .wide .ensures) in
+    let n-is = wide-held (b .wide2 .ensures) in
+    let zs = four-held (z .0 .1) (z .1 .0 .1) (z .1 .1 .0 .1) (z .1 .1 .1 .0 .1) in
+    let ws = four-held (w .0 .1) (w .1 .0 .1) (w .1 .1 .0 .1) (w .1 .1 .1 .0 .1) in
+    λ i. k-is i ∷ n-is i ∷ zs i .a ∷ zs i .b ∷ zs i .c ∷ zs i .d ∷ ws i .a ∷ ws i .b ∷ ws i .c ∷ ws i .d ∷ []
 
 pub put-ten-spec : {M : Type 1} → statement M
 put-ten-spec = tie.close (tie.spec wide-requires wide-requires-2 returns)

@@ -1,5 +1,5 @@
 -- `dunrossel::wide` meets its contract: a byte fits.
-use Rattle.dunrossel.specs.Numbers.{wide-is}
+use Rattle.dunrossel.specs.Handed.{wide-is}
 use borrow.Author.Needs.{needs}
 use Rattle.dunrossel.proofs.wide.Statement.{statement}
 use Rattle.dunrossel.proofs.wide.Tie as tie

@@ -99,11 +99,6 @@ pub record FirstOutside (alphabet : Letter → Bool) (bs : List ℕ) (place : �
   pub outside : In alphabet (getD bs place 0) → ⊥
   pub before : (i : ℕ) → i < place → In alphabet (getD bs i 0)
 
--- the bytes spell letters of an alphabet
-pub record Spells (alphabet : Letter → Bool) (bs : List ℕ) (u : List Letter) : Type 0 where
-  pub spelled : bytes u ≡ bs
-  pub inside : (i : ℕ) → i < length bs → In alphabet (getD bs i 0)
-
 -- what holds of the letters that the bytes spell
 pub record Spelled {A : Type 0} (Of : List Letter → A → Type 0) (bs : List ℕ) (a : A) : Type 0 where
   pub letters : List Letter

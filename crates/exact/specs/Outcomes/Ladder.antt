@@ -53,12 +53,12 @@ module _ {R : Type 0} (refused : ℕ → ℕ → R) (Answer : R → Type 0) wher
   pass none gs h r x = x
   pass (f then fs) gs h r x = Rung.passed (h .0) (pass fs gs (h .1) r x)
 
-  -- what holds of every refusal and of every answer
-  module _ (P : R → Type 0) (at-refused : (n p : ℕ) → P (refused n p)) (at-answer : (r : R) → Answer r → P r) where
-    pub always : (fs : Refusals) (r : R) → Outcome refused Answer fs r → P r
-    always none r x = at-answer r x
-    always (f then fs) r (Rung.given p k e) = subst P (sym e) (at-refused (f .number) p)
-    always (f then fs) r (Rung.passed n x) = always fs r x
+  -- what holds of every refusal, and of every answer where none holds
+  module _ (P : R → Type 0) (at-refused : (n p : ℕ) → P (refused n p)) where
+    pub always : (fs : Refusals) → (Passed fs → (r : R) → Answer r → P r) → (r : R) → Outcome refused Answer fs r → P r
+    always none at-answer r x = at-answer tt r x
+    always (f then fs) at-answer r (Rung.given p k e) = subst P (sym e) (at-refused (f .number) p)
+    always (f then fs) at-answer r (Rung.passed n x) = always fs (λ h. at-answer (n, h)) r x
 
 -- an outcome made of another, whose refusals become those of the one
 module _ {R S : Type 0} (refused : ℕ → ℕ → R) (Answer : R → Type 0) (refused′ : ℕ → ℕ → S) (Answer′ : S → Type 0) (f : R → S) where

@@ -26,12 +26,11 @@ module _ {A H : Type 0} (text : A → List ℕ) (counts : A → H) (Answer : A �
     Written r = Outcome (untouched refused old) (Writes text counts Answer old) (room text Answer old then none) r
 
     -- what is handed back as the size is there
-    pub written-there : (size : H → ℕ) → ((n p : ℕ) → size (refused n p) ≡ 0) → ((v : A) → size (counts v) ≡ length (text v))
-        → (fs : Refusals) (r : Lent H) → Outcome (untouched refused old) (Writes text counts Answer old) fs r → size (r .handed) ≤ length (r .buffer)
-    written-there size nothing all =
-        always (untouched refused old) (Writes text counts Answer old) (λ (r : Lent H). size (r .handed) ≤ length (r .buffer))
-        (λ n p. omega (arith, nothing n p))
-        (λ r x. rw (x .is) (omega (arith, all (x .v), length-append (text (x .v)) (drop (length (text (x .v))) old))))
+    pub written-there : (size : H → ℕ) → ((n p : ℕ) → size (refused n p) ≡ 0) → ((v : A) → size (counts v) ≡ length (text v)) → (fs : Refusals)
+        → (r : Lent H) → Outcome (untouched refused old) (Writes text counts Answer old) fs r → size (r .handed) ≤ length (r .buffer)
+    written-there size nothing all fs =
+        always (untouched refused old) (Writes text counts Answer old) (λ (r : Lent H). size (r .handed) ≤ length (r .buffer)) (λ n p. omega (arith, nothing n p)) fs
+        (λ h r x. rw (x .is) (omega (arith, all (x .v), length-append (text (x .v)) (drop (length (text (x .v))) old))))
 
 -- the same answers, handed on by f
 module _ {A H K : Type 0} (text : A → List ℕ) (counts : A → H) (counts′ : A → K) (Answer Answer′ : A → Type 0) (old : List ℕ) (refused : ℕ → ℕ → H) (refused′ : ℕ → ℕ → K) (f : H → K) where
