@@ -32,9 +32,9 @@ number-line-requires-3 c κs =
     let two = three .before .before .before .before .before in
     let one = two .before .before .before .before .before in
     let start = one .before .before .before .before .before in
-    let room = four-room (start .args .refusal) (now (start .args .word)) (one .number-line .ensures)
-    (start .fits .refusal .fits) (start .pre .0) (start .pre .1) in
-    search (room, start .fits .t .fits, two .bytes-line .ensures, three .number-line2 .ensures)
+    let fits = start .fits in
+    let room = four-room (start .args .refusal) (now (start .args .word)) (one .number-line .ensures) in
+    search (room (fits .refusal .fits) (start .pre .0) (start .pre .1), fits .t .fits, two .bytes-line .ensures, three .number-line2 .ensures)
 
 same-length : tie.Need-same-length
 same-length c = search needs
