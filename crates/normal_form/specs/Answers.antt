@@ -14,7 +14,7 @@ use Rattle.exact.specs.Meaning.Word.{Letter, byte, bytes, tees, Spelled}
 use Rattle.exact.specs.Meaning.Normal as normal
 use Rattle.exact.specs.Meaning.Limits.{Accepted, Letter as LETTER, Room}
 use Rattle.exact.specs.Meaning.Lent.{over}
-use Rattle.exact.specs.Cases.Letters.{lettersOf}
+use Rattle.exact.specs.Cases.Letters.{lettersOf, bytes-length}
 use Rattle.exact.specs.Unique.Tails.{tees-append}
 use Rattle.exact.specs.Outcomes.Ladder.{Only}
 use Rattle.normal_form.specs.declared.reading.Read.{Read}
@@ -116,10 +116,6 @@ codes-room items k n l h =
 pub bytes-append : (u v : List Letter) → bytes (u ++ v) ≡ bytes u ++ bytes v
 bytes-append [] v = refl
 bytes-append (l ∷ u) v = ap (λ x. byte l ∷ x) (bytes-append u v)
-
-pub bytes-length : (u : List Letter) → length (bytes u) ≡ length u
-bytes-length [] = refl
-bytes-length (l ∷ u) = ap suc (bytes-length u)
 
 -- ---- what is written for a reading: its text, if there is room for it
 pub record WritesReading (phase : Bool) (items : List ℕ) (r : Reading) (old : List ℕ) (n : Written) (new : List ℕ) : Type 0 where

@@ -9,14 +9,14 @@ use lib.Dec.{T, leb, leb→le}
 use lib.ListN.{length, getD}
 use mir.Facts.{and-yes}
 use Rattle.exact.specs.Meaning.Matrix.{Same}
-use Rattle.exact.specs.Meaning.Word.{Letter, I, S, W, T′, word, tees, bytes, job3, Spelled}
+use Rattle.exact.specs.Meaning.Word.{Letter, I, S, W, T′, word, tees, bytes, job3, All, Spelled}
 use Rattle.exact.specs.Meaning.Normal.{Normal, times, lessFinalW}
 use Rattle.exact.specs.Meaning.Limits.{longest, Accepted, Room}
 use Rattle.exact.specs.Meaning.Lent.{Lent, lent, over, untouched, Writes}
 use Rattle.exact.specs.Matrices.Test.{sameTest, same-by}
 use Rattle.exact.specs.Unique.Normal.{normal-fewest}
 use Rattle.exact.specs.Outcomes.Ladder.{Only, always}
-use Rattle.exact.specs.Cases.Letters.{bytes-inj}
+use Rattle.exact.specs.Cases.Letters.{bytes-inj, none-outside}
 use Rattle.exact.specs.Cases.NormalTest.{normalTest, normal-by}
 use Rattle.exact.specs.Cases.Table.{Row, Each, cases, Normalised, all-cases}
 use Rattle.exact.specs.Outcomes.Lent.{handed-same, bytes-same}
@@ -26,7 +26,6 @@ use Rattle.normal_form.specs.Outcome.{wordRefusals, WordOutcome, Normali
 use Rattle.normal_form.specs.Outcome.{outcome-unique, no-room, written-whole, answered-with}
 use Rattle.normal_form.specs.Readings.{start, run}
 use Rattle.normal_form.specs.Endings.{textOf}
-use Rattle.normal_form.specs.Letters.{Inside, none-outside}
 use Rattle.normal_form.specs.Answers.{answers}
 
 -- ---- two outcomes that job 3 or job 5 allows are equal
@@ -63,10 +62,9 @@ abbrev pub allowed : List Letter → Bool
 allowed [] = true
 allowed (l ∷ u) = job3 l && allowed u
 
-pub spells-by : (u : List Letter) → T (allowed u) → Inside (bytes u) (length (bytes u))
-spells-by [] t i h = absurd (omega arith)
-spells-by (l ∷ u) t zero h = record { letter-there = l; allowed = and-yes (job3 l) (allowed u) t .0; is = refl }
-spells-by (l ∷ u) t (suc i) h = spells-by u (and-yes (job3 l) (allowed u) t .1) i (omega arith)
+all-by : (u : List Letter) → T (allowed u) → All job3 u
+all-by [] t = tt
+all-by (l ∷ u) t = let s = and-yes (job3 l) (allowed u) t in (s .0, all-by u (s .1))
 
 abbrev short : List Letter → Bool
 short u = allowed u && leb (length (bytes u)) longest
@@ -78,7 +76,7 @@ module _ (Answer : List Letter → List Letter → Type 0) (one : (u : List Lett
   by-room r new =
       let s = and-yes (allowed u) (leb (length (bytes u)) longest) t in
       answered-with one (bytes u) old v (record { letters = u; spelled = refl; holds = a }) r new
-      (leb→le (length (bytes u)) longest (s .1)) (none-outside (bytes u) (spells-by u (s .0)))
+      (leb→le (length (bytes u)) longest (s .1)) (none-outside job3 u (all-by u (s .0)))
 
   refused-there : length old < length (bytes v) → WordOutcome Answer (bytes u) old (refused Room 0) old
   refused-there l = by-room (refused Room 0) old (no-room v old (refused Room 0) l refl)

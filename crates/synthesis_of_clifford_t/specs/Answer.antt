@@ -11,14 +11,14 @@ use mir.Facts.{toZ-ofZ}
 use mir.Syntax.{w64}
 use mir.Val.{SFits}
 use Rattle.exact.specs.Meaning.Matrix.{Matrix, Same}
-use Rattle.exact.specs.Meaning.Word.{Letter, word, bytes, job3, In, Spelled}
+use Rattle.exact.specs.Meaning.Word.{Letter, word, bytes, job3, Spelled}
 use Rattle.exact.specs.Meaning.Normal.{NormalOf}
 use Rattle.exact.specs.Meaning.Triple.{Triple, entries}
 use Rattle.exact.specs.Meaning.Limits.{deepest}
 use Rattle.exact.specs.Meaning.Outcome.{none, _then_}
 use Rattle.exact.specs.Meaning.Lent.{lent, untouched, Writes}
 use Rattle.exact.specs.Meaning.Refusals.{long, letter, room}
-use Rattle.exact.specs.Cases.Letters.{bytes-inj, bytes-length}
+use Rattle.exact.specs.Cases.Letters.{bytes-inj, bytes-length, none-outside}
 use Rattle.exact.specs.Whole.Machine.{held}
 use Rattle.exact.specs.Matrices.Same.{Same-sym, Same-trans}
 use Rattle.exact.specs.Matrices.Triples.{unitary-same}
@@ -38,7 +38,7 @@ use Rattle.normal_form.specs.Put.{Put}
 use Rattle.synthesis_of_clifford_t.specs.declared.Synthesis.{Synthesis}
 use Rattle.synthesis_of_clifford_t.specs.Step.{Ready}
 use Rattle.synthesis_of_clifford_t.specs.Steps.{letters, letters-same}
-use Rattle.synthesis_of_clifford_t.specs.Counts.{Plain, letters-plain, letters-length}
+use Rattle.synthesis_of_clifford_t.specs.Counts.{letters-plain, letters-length}
 use Rattle.synthesis_of_clifford_t.specs.Outcome.{refused, counts, SynthesiseOutcome}
 
 -- the normal word of a reduced triple, where there is room for it
@@ -60,11 +60,6 @@ module _ (first : List ℕ) (u : List Letter) (work : List ℕ) (len : ℕ) (p :
   word-long = sym len-is ∙ sym (ap length word-is)
 
 -- ---- normalised
-plain-in : (u : List Letter) → Plain u → (i : ℕ) → i < length (bytes u) → In job3 (getD (bytes u) i 0)
-plain-in [] p i h = absurd (omega arith)
-plain-in (l ∷ u) p zero h = record { letter-there = l; allowed = p .0; is = refl }
-plain-in (l ∷ u) p (suc i) h = plain-in u (p .1) i (omega arith)
-
 abbrev kept : Job3.Written → Synthesis
 kept r = record { refusal = r .refusal; bytes = r .bytes; tees = r .tees }
 
@@ -73,7 +68,7 @@ module _ (t : Triple) (ready : Ready t) (few : t .k ≤ deepest) (old : List ℕ
   plain-passed : Passed (long (bytes (letters t)) then letter job3 (bytes (letters t)) then none)
   plain-passed = (
     (λ p h. omega (arith, h .0, bytes-length (letters t), letters-length t ready)),
-    ((λ p h. h .outside (plain-in (letters t) (letters-plain t ready) p (h .there))), tt),
+    (none-outside job3 (letters t) (letters-plain t ready), tt),
   )
 
   to-triple : (v : List Letter) → Spelled Normalises (bytes (letters t)) v → NormalOf (entries t) v

@@ -8,7 +8,7 @@ use native.Mathlib.Omega.{arith}
 use lib.Dec.{T}
 use lib.ListN.{length, length-append}
 use Rattle.exact.specs.Meaning.Matrix.{Same}
-use Rattle.exact.specs.Meaning.Word.{Letter, S, X, W, T′, word, tees, job3}
+use Rattle.exact.specs.Meaning.Word.{Letter, S, X, W, T′, word, tees, job3, All}
 use Rattle.exact.specs.Meaning.Normal.{Syllable, HT, SHT, Front, nothing, onlyH, onlySH, Tail, Fits, Normal}
 use Rattle.exact.specs.Meaning.Normal.{times, frontWord, tailWord, orI, after, leading}
 use Rattle.exact.specs.Meaning.Triple.{Triple, entries}
@@ -63,8 +63,7 @@ letters-tees t r = omega (arith, by-step t r, steps-few t r)
 
 -- ---- the letters are those of job 3
 abbrev pub Plain : List Letter → Type 0
-Plain [] = Unit {0}
-Plain (l ∷ u) = T (job3 l) × Plain u
+Plain u = All job3 u
 
 plain-append : (u v : List Letter) → Plain u → Plain v → Plain (u ++ v)
 plain-append [] v p q = q

@@ -5,7 +5,7 @@ use native.Mathlib.Omega.{arith}
 use borrow.Author.Needs.{needs}
 use lib.ListN.{length}
 use Rattle.exact.specs.Meaning.Word.{bytes}
-use Rattle.normal_form.specs.Answers.{bytes-length}
+use Rattle.exact.specs.Cases.Letters.{bytes-length}
 use Rattle.normal_form.specs.Endings.{endWord, endSize, end-length, letter-in}
 use Rattle.normal_form.specs.Put.{Putting, putting-none, putting-long, putting-more, putting-all}
 use Rattle.normal_form.specs.declared.writing.Ending.{Ending}
