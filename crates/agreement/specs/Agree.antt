@@ -17,7 +17,7 @@ use Rattle.exact.specs.Meaning.Lent.{Lent, lent, over, untouched, Writes}
 use Rattle.exact.specs.Meaning.Refusals.{checks, room}
 use Rattle.exact.specs.Cases.Letters.{bytes-length}
 use Rattle.exact.specs.Outcomes.Ladder.{answered, always}
-use Rattle.exact.specs.Outcomes.Lent.{handed-same, bytes-same, written-there}
+use Rattle.exact.specs.Outcomes.Lent.{written-there}
 use Rattle.ring.specs.Number.{quad}
 use Rattle.unitary.specs.declared.FromGates.{FromGates}
 use Rattle.unitary.specs.Triples.{triple}
@@ -72,32 +72,34 @@ module _ (u : List Letter) (w : Within u) (old₁ old₂ : List ℕ) (h : enough
   agree-yes r new₁ new₂ a =
       decided (r .yes) (a .yes-is)
       (record {
-        first-taken = ap (λ (x : Written). x .refusal) (g .first-is);
-        second-taken = ap (λ (x : Written). x .refusal) second-is;
-        same-bytes =
-            ap (λ (x : Written). take (x .bytes) new₁) (g .first-is) ∙ ap (take (length v)) (g .first-bytes) ∙ written v old₁
-            ∙ sym (ap (λ (x : Written). take (x .bytes) new₂) second-is ∙ ap (take (length v)) second-bytes ∙ written v old₂);
+        first-taken = ap refusal (g .first-is);
+        second-taken = ap refusal second-is;
+        same-bytes = ap taken (g .first-is) ∙ written v old₁ ∙ sym (ap taken second-is ∙ written v old₂);
       })
     where
+      refusal : Lent Written → ℕ
+      refusal l = l .handed .refusal
+
+      taken : Lent Written → List ℕ
+      taken l = take (l .handed .bytes) (l .buffer)
+
       second : HandsOn (Job4Of (a .matrix) old₂) handedOn (lent (r .second) new₂)
       second =
           answered (untouched Job3.refused old₂) (HandsOn (Job4Of (a .matrix) old₂) handedOn) (earlier (a .matrix) then none)
           ((λ p e. e .0 (taken-2 u w (a .matrix) (a .matrix-is))), tt) (lent (r .second) new₂) (a .second-is)
 
-      both : (v : List Letter) × Agreed u v old₁ old₂ (r .first) new₁ (a .matrix) (second .job .handed) (second .job .buffer)
-      both = demand-3 u w old₁ old₂ h k (r .first) new₁ (a .matrix) (second .job .handed) (second .job .buffer) (a .first-is) (a .matrix-is) (second .outcome)
+      both : (v : List Letter) × Agreed u v old₁ old₂ (lent (r .first) new₁) (a .matrix) (second .job)
+      both =
+          demand-3 u w old₁ old₂ h k (r .first) new₁ (a .matrix) (second .job .handed) (second .job .buffer) (a .first-is) (a .matrix-is) (second .outcome)
 
       v : List Letter
       v = both .0
 
-      g : Agreed u v old₁ old₂ (r .first) new₁ (a .matrix) (second .job .handed) (second .job .buffer)
+      g : Agreed u v old₁ old₂ (lent (r .first) new₁) (a .matrix) (second .job)
       g = both .1
 
-      second-is : r .second ≡ Job3.counts v
-      second-is = handed-same (second .is) ∙ ap (λ (x : Synthesis). handedOn (lent x new₂) .handed) (g .second-is)
-
-      second-bytes : new₂ ≡ over (bytes v) old₂
-      second-bytes = bytes-same (second .is) ∙ g .second-bytes
+      second-is : lent (r .second) new₂ ≡ lent (Job3.counts v) (over (bytes v) old₂)
+      second-is = second .is ∙ ap handedOn (g .second-is)
 
 -- ---- what is written is there
 pub first-there : (bs old : List ℕ) (r : Written) (new : List ℕ) → NormaliseOutcome bs old r new → r .bytes ≤ length new

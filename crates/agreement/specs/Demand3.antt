@@ -1,6 +1,6 @@
--- Demand 3, over the outcomes of the public jobs: for a word of H, S, X, W, T of at most 4,096 letters each of whose endings has least exponent at most 60,
--- job 3 and job 2 followed by job 4, each given 376 bytes, are accepted and give the same bytes, a normal word with the word's matrix; and two such words
--- with one matrix give one outcome. Assumes nothing.
+-- Demand 3, over the outcomes of the public jobs: for a word of H, S, X, W, T of at most 4,096 letters each of whose endings has least
+-- exponent at most 60, job 3 and job 2 followed by job 4, each given 376 bytes, are accepted and give the same bytes, a normal word with
+-- the word's matrix; and two such words with one matrix give one outcome. Assumes nothing.
 use mathlib.Core.Path.{_≡_, refl, sym, _∙_, ap, subst}
 use mathlib.Core.List.{List, [], _∷_}
 use Prim.Native.Nat.{ℕ, _≤_, _<_}
@@ -15,7 +15,7 @@ use Rattle.exact.specs.Meaning.Triple.{entries, Unitary}
 use Rattle.exact.specs.Meaning.Endings.{Shallow, AllShallow, DeepAt}
 use Rattle.exact.specs.Meaning.Limits.{longest, deepest, enough, Accepted}
 use Rattle.exact.specs.Meaning.Outcome.{none, _then_, _also_}
-use Rattle.exact.specs.Meaning.Lent.{lent, over, untouched, Writes}
+use Rattle.exact.specs.Meaning.Lent.{Lent, lent, over, untouched, Writes}
 use Rattle.exact.specs.Meaning.Refusals.{long, letter, deep, checks, TooMany, room}
 use Rattle.exact.specs.Cases.Letters.{bytes-inj, bytes-length, none-outside, all-job2}
 use Rattle.exact.specs.Matrices.Same.{Same-sym, Same-trans, Same-of}
@@ -26,7 +26,6 @@ use Rattle.exact.specs.Unique.Normal.{unique}
 use Rattle.exact.specs.Outcomes.Ladder.{answered}
 use Rattle.exact.specs.Outcomes.Places.{not-both}
 use Rattle.exact.specs.Outcomes.Checked.{Taken, taken-checks}
-use Rattle.exact.specs.Outcomes.Lent.{handed-same, bytes-same}
 use Rattle.ring.specs.Number.{quad}
 use Rattle.unitary.specs.declared.FromGates.{FromGates}
 use Rattle.unitary.specs.Triples.{triple}
@@ -46,14 +45,12 @@ pub record Within (u : List Letter) : Type 0 where
   pub shallow : AllShallow u
 
 -- ---- what it promises: v is the answer of both ways
-pub record Agreed (u v : List Letter) (old₁ old₂ : List ℕ) (first : Written) (new₁ : List ℕ) (matrix : FromGates) (second : Synthesis) (new₂ : List ℕ) : Type 0 where
+pub record Agreed (u v : List Letter) (old₁ old₂ : List ℕ) (first : Lent Written) (matrix : FromGates) (second : Lent Synthesis) : Type 0 where
   pub normal : Normal v
   pub same : Same (word v) (word u)
-  pub first-is : first ≡ Job3.counts v
-  pub first-bytes : new₁ ≡ over (bytes v) old₁
+  pub first-is : first ≡ lent (Job3.counts v) (over (bytes v) old₁)
   pub matrix-taken : matrix .refusal ≡ Accepted
-  pub second-is : second ≡ Job4.counts v
-  pub second-bytes : new₂ ≡ over (bytes v) old₂
+  pub second-is : second ≡ lent (Job4.counts v) (over (bytes v) old₂)
 
 -- job 4 on the matrix that job 2 answers
 abbrev pub Synthesises : FromGates → List ℕ → Synthesis → List ℕ → Type 0
@@ -72,7 +69,12 @@ module _ (u : List Letter) (w : Within u) where
   fits : (m : Matrix) → Same m (word u) → (old : List ℕ) → enough ≤ length old → (p : ℕ) → TooMany bytes (NormalOf m) old × (p ≡ 0) → ⊥
   fits m s old l p h =
       let a = h .0 .answer in
-      omega (arith, h .0 .more, bytes-length (h .0 .v), word-enough u (h .0 .v) (depth .k) (depth .least) (depth .few) (a .normal) (Same-trans (Same-sym (a .same)) s))
+      omega (
+        arith,
+        h .0 .more,
+        bytes-length (h .0 .v),
+        word-enough u (h .0 .v) (depth .k) (depth .least) (depth .few) (a .normal) (Same-trans (Same-sym (a .same)) s),
+      )
 
   few-bytes : (p : ℕ) → (longest < length (bytes u)) × (p ≡ 0) → ⊥
   few-bytes p h = omega (arith, h .0, bytes-length u, w .few)
@@ -117,7 +119,11 @@ module _ (u : List Letter) (w : Within u) where
     taken : Taken (pos (m .matrix .k)) (quad (m .matrix .z)) (quad (m .matrix .w))
     taken =
         record {
-          exponent-in = record { low = record { le = le→leb 0 (m .matrix .k) (omega arith) }; high = record { le = le→leb (m .matrix .k) deepest k-few } };
+          exponent-in =
+              record {
+                low = record { le = le→leb 0 (m .matrix .k) (omega arith) };
+                high = record { le = le→leb (m .matrix .k) deepest k-few };
+              };
           coefficients-in = record { z-in = z-sized matrix-unitary 30 k-few; w-in = w-sized matrix-unitary 30 k-few };
           unitary-there = λ n. record { squares-sum = matrix-unitary .squares-sum; crosses-sum = matrix-unitary .crosses-sum };
         }
@@ -125,7 +131,8 @@ module _ (u : List Letter) (w : Within u) where
     abbrev asked : Matrix
     asked = entries (triple (m .matrix))
 
-    job-4 : (old : List ℕ) (r : Synthesis) (new : List ℕ) → enough ≤ length old → Synthesises m old r new → Writes bytes Job4.counts (NormalOf asked) old (lent r new)
+    job-4 : (old : List ℕ) (r : Synthesis) (new : List ℕ) → enough ≤ length old → Synthesises m old r new
+        → Writes bytes Job4.counts (NormalOf asked) old (lent r new)
     job-4 old r new l o =
         let t = taken-checks (pos (m .matrix .k)) (quad (m .matrix .z)) (quad (m .matrix .w)) taken in
         answered (untouched Job4.refused old) (Writes bytes Job4.counts (NormalOf asked) old)
@@ -136,41 +143,36 @@ module _ (u : List Letter) (w : Within u) where
 module _ (u : List Letter) (w : Within u) (old₁ old₂ : List ℕ) (room₁ : enough ≤ length old₁) (room₂ : enough ≤ length old₂) where
   pub demand-3 : (first : Written) (new₁ : List ℕ) (matrix : FromGates) (second : Synthesis) (new₂ : List ℕ)
       → NormaliseOutcome (bytes u) old₁ first new₁ → MatrixOutcome (bytes u) matrix → Synthesises matrix old₂ second new₂
-      → (v : List Letter) × Agreed u v old₁ old₂ first new₁ matrix second new₂
+      → (v : List Letter) × Agreed u v old₁ old₂ (lent first new₁) matrix (lent second new₂)
   demand-3 first new₁ matrix second new₂ a b c =
       let x = job-3 u w old₁ first new₁ room₁ a in
       let n = of-word u w (x .answer) in
       let m = job-2 u w matrix b in
       let y = job-4 u w matrix (m .answer) old₂ second new₂ room₂ c in
-      let e : y .v ≡ x .v = unique (y .answer .normal) (n .normal) (Same-trans (Same-sym (y .answer .same)) (Same-trans (m .answer .same) (n .same))) in (
+      let s = Same-trans (Same-sym (y .answer .same)) (Same-trans (m .answer .same) (n .same)) in
+      let e : y .v ≡ x .v = unique (y .answer .normal) (n .normal) s in (
         x .v,
         record {
           normal = n .normal;
           same = Same-sym (n .same);
-          first-is = handed-same (x .is);
-          first-bytes = bytes-same (x .is);
+          first-is = x .is;
           matrix-taken = m .taken;
-          second-is = handed-same (y .is) ∙ ap Job4.counts e;
-          second-bytes = bytes-same (y .is) ∙ ap (λ (l : List Letter). over (bytes l) old₂) e;
+          second-is = y .is ∙ ap (λ (l : List Letter). lent (Job4.counts l) (over (bytes l) old₂)) e;
         },
       )
 
 -- ---- two such words with one matrix have one outcome
-pub record OneOutcome (first first′ : Written) (new₁ new₁′ : List ℕ) (second second′ : Synthesis) (new₂ new₂′ : List ℕ) : Type 0 where
+pub record OneOutcome (first first′ : Lent Written) (second second′ : Lent Synthesis) : Type 0 where
   pub first-same : first ≡ first′
-  pub first-bytes-same : new₁ ≡ new₁′
   pub second-same : second ≡ second′
-  pub second-bytes-same : new₂ ≡ new₂′
 
-module _ {u u′ v v′ : List Letter} {old₁ old₂ : List ℕ} {first first′ : Written} {new₁ new₁′ : List ℕ} {m m′ : FromGates} {second second′ : Synthesis} {new₂ new₂′ : List ℕ} where
-  pub one-outcome : Same (word u) (word u′) → Agreed u v old₁ old₂ first new₁ m second new₂ → Agreed u′ v′ old₁ old₂ first′ new₁′ m′ second′ new₂′
-      → OneOutcome first first′ new₁ new₁′ second second′ new₂ new₂′
+module _ {u u′ v v′ : List Letter} {old₁ old₂ : List ℕ} {first first′ : Lent Written} {m m′ : FromGates} {second second′ : Lent Synthesis} where
+  pub one-outcome : Same (word u) (word u′) → Agreed u v old₁ old₂ first m second → Agreed u′ v′ old₁ old₂ first′ m′ second′
+      → OneOutcome first first′ second second′
   one-outcome s a b =
       record {
-        first-same = a .first-is ∙ ap Job3.counts e ∙ sym (b .first-is);
-        first-bytes-same = a .first-bytes ∙ ap (λ (l : List Letter). over (bytes l) old₁) e ∙ sym (b .first-bytes);
-        second-same = a .second-is ∙ ap Job4.counts e ∙ sym (b .second-is);
-        second-bytes-same = a .second-bytes ∙ ap (λ (l : List Letter). over (bytes l) old₂) e ∙ sym (b .second-bytes);
+        first-same = a .first-is ∙ ap (λ (l : List Letter). lent (Job3.counts l) (over (bytes l) old₁)) e ∙ sym (b .first-is);
+        second-same = a .second-is ∙ ap (λ (l : List Letter). lent (Job4.counts l) (over (bytes l) old₂)) e ∙ sym (b .second-is);
       }
     where
       e : v ≡ v′

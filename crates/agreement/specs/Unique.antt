@@ -20,9 +20,11 @@ use Rattle.agreement.specs.Agree.{earlier, handedOn, Job4Of, Second, Ali
 
 -- ---- the second way
 one-job4 : (m : FromGates) (old : List ℕ) → Only (Job4Of m old)
-one-job4 m old r s = synthesise-unique (pos (m .matrix .k)) (m .matrix .n) (m .matrix .z) (m .matrix .w) old (r .handed) (r .buffer) (s .handed) (s .buffer)
+one-job4 m old r s =
+    synthesise-unique (pos (m .matrix .k)) (m .matrix .n) (m .matrix .z) (m .matrix .w) old (r .handed) (r .buffer) (s .handed) (s .buffer)
 
-second-unique : (m : FromGates) (old : List ℕ) (r : Written) (new : List ℕ) (r′ : Written) (new′ : List ℕ) → Second m old r new → Second m old r′ new′ → lent r new ≡ lent r′ new′
+second-unique : (m : FromGates) (old : List ℕ) (r : Written) (new : List ℕ) (r′ : Written) (new′ : List ℕ) → Second m old r new
+    → Second m old r′ new′ → lent r new ≡ lent r′ new′
 second-unique m old r new r′ new′ =
     one-outcome (untouched Job3.refused old) (HandsOn (Job4Of m old) handedOn) (earlier m then none) ((λ p q h k. h .1 ∙ sym (k .1)), tt)
     (λ h. one-handed (Job4Of m old) handedOn (one-job4 m old)) (lent r new) (lent r′ new′)
@@ -57,7 +59,9 @@ module _ (bs old₁ old₂ : List ℕ) (r : Agreement) (new₁ new₂ : List ℕ
       first = normalise-unique bs old₁ (r .first) new₁ (r′ .first) new₁′ (a .first-is) (b .first-is)
 
       moved : Second (b .matrix) old₂ (r .second) new₂
-      moved = subst (λ (m : FromGates). Second m old₂ (r .second) new₂) (matrix-unique bs (a .matrix) (b .matrix) (a .matrix-is) (b .matrix-is)) (a .second-is)
+      moved =
+          subst (λ (m : FromGates). Second m old₂ (r .second) new₂) (matrix-unique bs (a .matrix) (b .matrix) (a .matrix-is) (b .matrix-is))
+          (a .second-is)
 
       second : lent (r .second) new₂ ≡ lent (r′ .second) new₂′
       second = second-unique (b .matrix) old₂ (r .second) new₂ (r′ .second) new₂′ moved (b .second-is)

@@ -62,4 +62,6 @@ one-record s old r t x y =
 
 module _ (s old : List ℕ) (size : ℕ) (new : List ℕ) (size′ : ℕ) (new′ : List ℕ) where
   pub bench-unique : BenchOutcome s old size new → BenchOutcome s old size′ new′ → lent size new ≡ lent size′ new′
-  bench-unique = one-outcome (refused old) (OfRecord s old) (malformed s then none) (one-plain, tt) (λ h. one-record s old) (lent size new) (lent size′ new′)
+  bench-unique =
+      one-outcome (refused old) (OfRecord s old) (malformed s then none) (one-plain, tt) (λ h. one-record s old) (lent size new)
+      (lent size′ new′)

@@ -55,7 +55,8 @@ counts r = r .place ∷ r .bytes ∷ r .tees ∷ []
 -- jobs 3 and 5
 abbrev pub Writes : (List Letter → List Letter → Type 0) → List ℕ → List ℕ → ℕ × (List ℕ × List ℕ) → Type 0
 Writes Answer w old =
-    HandsOn (λ (j : Lent Written). WordOutcome Answer w old (j .handed) (j .buffer)) (λ (j : Lent Written). (j .handed .refusal, (counts (j .handed), j .buffer)))
+    HandsOn (λ (j : Lent Written). WordOutcome Answer w old (j .handed) (j .buffer))
+    (λ (j : Lent Written). (j .handed .refusal, (counts (j .handed), j .buffer)))
 
 -- job 4, whose place is always 0
 abbrev pub countsOf : Synthesis → List ℕ

@@ -63,7 +63,9 @@ held-small x f = toZ-ofZ {w = w32} {z = x} (record { sfits = f })
 -- ---- triples: what was said of the numbers read back is said of those handed in
 module _ (k : ℤ) {z w : ZOmega} (zw : List ℤ) (fits : SFits w64 k) (z-is : z ≡ zOf zw) (w-is : w ≡ wOf zw) where
   as-given : (Job : ℤ → ZOmega → ZOmega → Type 0) → Job (held w64 k) z w → Job k (zOf zw) (wOf zw)
-  as-given Job h = subst (λ y. Job y (zOf zw) (wOf zw)) (toZ-ofZ fits) (subst (λ x. Job (held w64 k) x (wOf zw)) z-is (subst (λ x. Job (held w64 k) z x) w-is h))
+  as-given Job h =
+      subst (λ y. Job y (zOf zw) (wOf zw)) (toZ-ofZ fits)
+      (subst (λ x. Job (held w64 k) x (wOf zw)) z-is (subst (λ x. Job (held w64 k) z x) w-is h))
 
   module _ (n : ℕ) where
     pub reduces : (j : Checked) (out : List ℤ) → ReduceOutcome (held w64 k) n z w j → out ≡ ten (j .matrix) → Reduces k n zw (j .refusal, out)
@@ -101,7 +103,11 @@ readBack f = reduced (held w32 (f .a)) (held w32 (f .b)) (held w32 (f .c)) (held
 
 argument-held : (x : List ℤ) (f : Four) → f ≡ listed x → Small f → readBack f ≡ argument x
 argument-held x f e s =
-    (λ i. reduced (held-small (f .a) (s .a-fits) i) (held-small (f .b) (s .b-fits) i) (held-small (f .c) (s .c-fits) i) (held-small (f .d) (s .d-fits) i))
+    (λ i. reduced
+    (held-small (f .a) (s .a-fits) i)
+    (held-small (f .b) (s .b-fits) i)
+    (held-small (f .c) (s .c-fits) i)
+    (held-small (f .d) (s .d-fits) i))
     ∙ ap (λ g. reduced (g .a) (g .b) (g .c) (g .d)) e
 
 module _ (x : List ℤ) (f : Four) (e : f ≡ listed x) (s : Small f) where
@@ -111,11 +117,14 @@ module _ (x : List ℤ) (f : Four) (e : f ≡ listed x) (s : Small f) where
   pub parted : (j : Coset) (out : List ℤ) → Split (readBack f) j → out ≡ fiveOf j → Parted x out
   parted j out o is = record { job = j; outcome = subst (λ (q : Clifford). Split q j) (argument-held x f e s) o; is = is }
 
-  pub multiplied : (y : List ℤ) (g : Four) → g ≡ listed y → Small g → (j : Clifford) (out : List ℤ) → Product (readBack f) (readBack g) j → out ≡ fourOf j
+  pub multiplied : (y : List ℤ) (g : Four) → g ≡ listed y → Small g → (j : Clifford) (out : List ℤ) → Product (readBack f) (readBack g) j
+      → out ≡ fourOf j
       → Multiplied x y out
   multiplied y g e′ s′ j out o is =
       record {
         job = j;
-        outcome = subst (λ (q : Clifford). Product (argument x) q j) (argument-held y g e′ s′) (subst (λ (q : Clifford). Product q (readBack g) j) (argument-held x f e s) o);
+        outcome =
+            subst (λ (q : Clifford). Product (argument x) q j) (argument-held y g e′ s′)
+            (subst (λ (q : Clifford). Product q (readBack g) j) (argument-held x f e s) o);
         is = is;
       }

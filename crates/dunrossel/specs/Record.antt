@@ -1,4 +1,5 @@
--- From job 4, lent enough bytes, to what the bench program answers: its word is there, refusal 7 can't arise, and its text is printed. Assumes nothing.
+-- From job 4, lent enough bytes, to what the bench program answers: its word is there, refusal 7 can't arise, and its text is printed.
+-- Assumes nothing.
 use mathlib.Core.Path.{_≡_, refl, sym, _∙_, ap, subst}
 use mathlib.Core.List.{List, []}
 use Prim.Native.Nat.{ℕ, _<_, _≤_, _^_}
@@ -65,10 +66,22 @@ job4-of r old j new f o =
     (subst (λ (w : ZOmega). SynthesiseOutcome (held w64 (r .k)) (r .n) (heldOf (r .za) (r .zb) (r .zc) (r .zd)) w old j new) w-is o))
   where
     z-is : heldOf (r .za) (r .zb) (r .zc) (r .zd) ≡ number (numbers r .z)
-    z-is = λ i. record { a = held-is (r .za) (f .za-fits) i; b = held-is (r .zb) (f .zb-fits) i; c = held-is (r .zc) (f .zc-fits) i; d = held-is (r .zd) (f .zd-fits) i }
+    z-is = λ i.
+        record {
+          a = held-is (r .za) (f .za-fits) i;
+          b = held-is (r .zb) (f .zb-fits) i;
+          c = held-is (r .zc) (f .zc-fits) i;
+          d = held-is (r .zd) (f .zd-fits) i;
+        }
 
     w-is : heldOf (r .wa) (r .wb) (r .wc) (r .wd) ≡ number (numbers r .w)
-    w-is = λ i. record { a = held-is (r .wa) (f .wa-fits) i; b = held-is (r .wb) (f .wb-fits) i; c = held-is (r .wc) (f .wc-fits) i; d = held-is (r .wd) (f .wd-fits) i }
+    w-is = λ i.
+        record {
+          a = held-is (r .wa) (f .wa-fits) i;
+          b = held-is (r .wb) (f .wb-fits) i;
+          c = held-is (r .wc) (f .wc-fits) i;
+          d = held-is (r .wd) (f .wd-fits) i;
+        }
 
 -- ---- 376 bytes are enough
 module _ (x : Numbers) (taken : Taken (x .k) (x .z) (x .w)) where
@@ -94,7 +107,11 @@ module _ (x : Numbers) (old : List ℕ) (enough-there : enough ≤ length old) (
   behind : (j : Lent Synthesis) → Passed (checks (x .k) (x .z) (x .w))
       → Outcome (untouched Job4.refused old) (Writes bytes Job4.counts (NormalOf (asked x)) old) (room bytes (NormalOf (asked x)) old then none) j
       → Writes wordText wordSize (NormalOf (asked x)) out (print j)
-  behind j h o = record { v = y .v; answer = y .answer; is = ap print (y .is) ∙ ap (λ w. printed out (answerText Accepted w (tees (y .v)))) word-there }
+  behind j h o = record {
+    v = y .v;
+    answer = y .answer;
+    is = ap print (y .is) ∙ ap (λ w. printed out (answerText Accepted w (tees (y .v)))) word-there;
+  }
     where
       y : Writes bytes Job4.counts (NormalOf (asked x)) old j
       y =
@@ -107,7 +124,8 @@ module _ (x : Numbers) (old : List ℕ) (enough-there : enough ≤ length old) (
   module _ (j : Synthesis) (new : List ℕ) (o : Job4Of x old j new) where
     pub numbers-outcome : NumbersOutcome x out (print (lent j new))
     numbers-outcome =
-        carry (untouched Job4.refused old) (Writes bytes Job4.counts (NormalOf (asked x)) old) (refused out) (Writes wordText wordSize (NormalOf (asked x)) out) print
+        carry (untouched Job4.refused old) (Writes bytes Job4.counts (NormalOf (asked x)) old) (refused out)
+        (Writes wordText wordSize (NormalOf (asked x)) out) print
         (λ n p. refl) (checks (x .k) (x .z) (x .w)) (room bytes (NormalOf (asked x)) old then none) none behind (lent j new) o
 
     -- what is handed back as written is there, and not too long
@@ -118,20 +136,23 @@ module _ (x : Numbers) (old : List ℕ) (enough-there : enough ≤ length old) (
 
     pub few : j .bytes ≤ enough
     few =
-        always (untouched Job4.refused old) (Writes bytes Job4.counts (NormalOf (asked x)) old) (λ (l : Lent Synthesis). l .handed .bytes ≤ enough) (λ n p. omega arith)
+        always (untouched Job4.refused old) (Writes bytes Job4.counts (NormalOf (asked x)) old)
+        (λ (l : Lent Synthesis). l .handed .bytes ≤ enough) (λ n p. omega arith)
         (checks (x .k) (x .z) (x .w) also (room bytes (NormalOf (asked x)) old then none))
         (λ h l y. rw (y .is) (short x (checks-taken (x .k) (x .z) (x .w) (h .0, (h .1 .0, (h .1 .1 .0, tt)))) (y .v) (y .answer))) (lent j new) o
 
     pub taken-there : j .bytes ≡ length (take (j .bytes) new)
     taken-there = sym (length-take-le (j .bytes) new there)
 
-    pub printed-is : (size : ℕ) (out′ : List ℕ) → WriteOutcome (j .refusal) (take (j .bytes) new) (j .tees) out out′ size → NumbersOutcome x out (lent size out′)
+    pub printed-is : (size : ℕ) (out′ : List ℕ) → WriteOutcome (j .refusal) (take (j .bytes) new) (j .tees) out out′ size
+        → NumbersOutcome x out (lent size out′)
     printed-is size out′ w = subst (NumbersOutcome x out) (sym (λ i. lent (w .is-size i) (w .is i))) numbers-outcome
 
 -- ---- after reading
 module _ (s old : List ℕ) (r : Record) (size : ℕ) (new : List ℕ) where
   pub bench-malformed : ReadOutcome s r → (r .refusal ≡ 0 → ⊥) → WriteOutcome (r .refusal) [] 0 old new size → BenchOutcome s old size new
-  bench-malformed (Rung.given p h e) f w = Rung.given p h ((λ i. lent (w .is-size i) (w .is i)) ∙ ap (λ (x : Record). printed old (answerText (x .refusal) [] 0)) e)
+  bench-malformed (Rung.given p h e) f w =
+      Rung.given p h ((λ i. lent (w .is-size i) (w .is i)) ∙ ap (λ (x : Record). printed old (answerText (x .refusal) [] 0)) e)
   bench-malformed (Rung.passed n x) f w = absurd (f (x .taken))
 
   pub bench-read : ReadOutcome s r → r .refusal ≡ 0 → NumbersOutcome (numbers r) old (lent size new) → BenchOutcome s old size new
@@ -149,4 +170,5 @@ pub bench-fits : (s old : List ℕ) (size : ℕ) (new : List ℕ) → BenchOutco
 bench-fits s old size new =
     always (refused old) (OfRecord s old) There (λ n p. printed-there old (answerText n [] 0)) (malformed s then none)
     (λ h r x. always (refused old) (Writes wordText wordSize (NormalOf (asked (x .numbers))) old) There (λ n p. printed-there old (answerText n [] 0))
-    (checks (x .numbers .k) (x .numbers .z) (x .numbers .w)) (λ g l y. rw (y .is) (printed-there old (wordText (y .v)))) r (x .outcome)) (lent size new)
+    (checks (x .numbers .k) (x .numbers .z) (x .numbers .w)) (λ g l y. rw (y .is) (printed-there old (wordText (y .v)))) r
+    (x .outcome)) (lent size new)

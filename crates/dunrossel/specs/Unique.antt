@@ -21,7 +21,8 @@ multiplies-unique w = one-handed _ _ (matrix-unique w)
 pub views-unique : (k : ℤ) (n : ℕ) (zw : List ℤ) → Only (Views k n zw)
 views-unique k n zw = one-handed _ _ (view-unique k n (zOf zw) (wOf zw))
 
-pub writes-unique : (Answer : List Letter → List Letter → Type 0) → ((u : List Letter) → Only (Answer u)) → (w old : List ℕ) → Only (Writes Answer w old)
+pub writes-unique : (Answer : List Letter → List Letter → Type 0) → ((u : List Letter) → Only (Answer u)) → (w old : List ℕ)
+    → Only (Writes Answer w old)
 writes-unique Answer one w old = one-handed _ _ (λ r s. outcome-unique one w old (r .handed) (r .buffer) (s .handed) (s .buffer))
 
 pub synthesises-unique : (k : ℤ) (n : ℕ) (zw : List ℤ) (old : List ℕ) → Only (Synthesises k n zw old)

@@ -50,7 +50,8 @@ pub small-turned : {x r : ZOmega} → Small x → quad r ≡ mulQ ints (omega′
 small-turned {x} s e = record { sized = rw e (omega-sized (2 ^ 31) (quad x) (s .sized)) }
 
 pub twice-turned : {r : Ω} (x : Ω) → r ≡ mulQ ints (omega′ ints) x → mulQ ints (omega′ ints) r ≡ mulQ ints (omega^ 2) x
-twice-turned x e = ap (mulQ ints (omega′ ints)) e ∙ ring₂ omegas omegas-laws (λ o x. o ⊗ (o ⊗ x)) (λ o x. o ⊗ (o ⊗ con (pos 1)) ⊗ x) tt (omega′ ints) x
+twice-turned x e =
+    ap (mulQ ints (omega′ ints)) e ∙ ring₂ omegas omegas-laws (λ o x. o ⊗ (o ⊗ x)) (λ o x. o ⊗ (o ⊗ con (pos 1)) ⊗ x) tt (omega′ ints) x
 
 -- ---- what synthesis takes off
 -- T to the power -m, m at most 8
@@ -72,7 +73,9 @@ module _ {s t r : DOmegaUnitary} (h : Lowering s t) {b : Bool} (test : b ≡ bot
   pub lower-more : Both (λ k. triple r ≡ lowered k (triple t)) (t .k) → Lowering s r
   lower-more e =
       record {
-        same = Same-trans (Same-trans (Same-of (ap entries (e .holds))) (lowered-same (e .before) (triple t) (e .is) (rw (sym test ∙ yes) tt))) (h .same);
+        same =
+            Same-trans (Same-trans (Same-of (ap entries (e .holds))) (lowered-same (e .before) (triple t) (e .is) (rw (sym test ∙ yes) tt)))
+            (h .same);
         z-small = record { sized = subst (Sized (2 ^ 31)) (sym (ap (λ u. u .z) (e .holds))) (over-sized (2 ^ 31) (quad (t .z)) (h .z-small .sized)) };
         w-small = record { sized = subst (Sized (2 ^ 31)) (sym (ap (λ u. u .w) (e .holds))) (over-sized (2 ^ 31) (quad (t .w)) (h .w-small .sized)) };
         n-same = ap (λ u. u .n) (e .holds) ∙ h .n-same;
@@ -122,8 +125,17 @@ module _ (t : DOmegaUnitary) (g : Good t) (h : t .k ≤ deepest) where
   -- and so are those after H
   pub h-small : (r : DOmegaUnitary) → triple r ≡ modEight (act H (triple t)) → Small (r .z) × Small (r .w)
   h-small r e = (
-    record { sized = subst (Sized (2 ^ 31)) (sym (ap (λ u. u .z) e)) (sized-le (omega arith) (add-sized (2 ^ 30) (2 ^ 30) (quad (t .z)) (quad (t .w)) z-sized′ w-sized′)) },
-    record { sized = subst (Sized (2 ^ 31)) (sym (ap (λ u. u .w) e)) (sized-le (omega arith) (add-sized (2 ^ 30) (2 ^ 30) (quad (t .z)) (negQ ints (quad (t .w))) z-sized′ (neg-sized (2 ^ 30) (quad (t .w)) w-sized′))) },
+    record {
+      sized =
+          subst (Sized (2 ^ 31)) (sym (ap (λ u. u .z) e))
+          (sized-le (omega arith) (add-sized (2 ^ 30) (2 ^ 30) (quad (t .z)) (quad (t .w)) z-sized′ w-sized′));
+    },
+    record {
+      sized =
+          subst (Sized (2 ^ 31)) (sym (ap (λ u. u .w) e))
+          (sized-le (omega arith)
+          (add-sized (2 ^ 30) (2 ^ 30) (quad (t .z)) (negQ ints (quad (t .w))) z-sized′ (neg-sized (2 ^ 30) (quad (t .w)) w-sized′)));
+    },
   )
 
 -- ---- letters but H keep divisibility
@@ -136,7 +148,8 @@ and-comm false false = refl
 divides-omega : (x : Ω) → divides (mulQ ints (omega′ ints) x) ≡ divides x
 divides-omega x =
     ap divides (times-omega x)
-    ∙ ap₂ (λ p q. not p && not q) (odd-sub (x .c) (x .a) ∙ sym (odd-add (x .c) (x .a))) (odd-add (x .d) (x .b) ∙ xr-comm (odd (x .d)) (odd (x .b)) ∙ sym (odd-add (x .b) (x .d)))
+    ∙ ap₂ (λ p q. not p && not q) (odd-sub (x .c) (x .a) ∙ sym (odd-add (x .c) (x .a)))
+    (odd-add (x .d) (x .b) ∙ xr-comm (odd (x .d)) (odd (x .b)) ∙ sym (odd-add (x .b) (x .d)))
     ∙ and-comm (not (odd (x .c +ℤ x .a))) (not (odd (x .b +ℤ x .d)))
 
 -- all letters but H
@@ -151,7 +164,9 @@ plain T′ = true
 plain-both : (l : Letter) → T (plain l) → (t : Triple) → bothTest (act l t) ≡ bothTest t
 plain-both I p t = refl
 plain-both H p t = absurd p
-plain-both S p t = ap (λ q. divides (t .z) && q) (ap divides (sym (twice-turned (t .w) refl)) ∙ divides-omega (mulQ ints (omega′ ints) (t .w)) ∙ divides-omega (t .w))
+plain-both S p t =
+    ap (λ q. divides (t .z) && q)
+    (ap divides (sym (twice-turned (t .w) refl)) ∙ divides-omega (mulQ ints (omega′ ints) (t .w)) ∙ divides-omega (t .w))
 plain-both X p t = and-comm (divides (t .w)) (divides (t .z))
 plain-both W p t = ap₂ _&&_ (divides-omega (t .z)) (divides-omega (t .w))
 plain-both T′ p t = ap (λ q. divides (t .z) && q) (divides-omega (t .w))
@@ -178,7 +193,12 @@ module _ (l : Letter) (t r : DOmegaUnitary) (e : triple r ≡ modEight (act l (t
 acted-plain : (l : Letter) (t r : DOmegaUnitary) → T (plain l) → Good t → triple r ≡ modEight (act l (triple t)) → Acted l t r
 acted-plain l t r p g e =
     record {
-      good = record { unitary = moved-unitary l t r e (g .unitary); reduced = test-reduced (triple r) (subst T (sym test) (reduced-test (triple t) (g .reduced))); n-small = moved-n l t r e };
+      good =
+          record {
+            unitary = moved-unitary l t r e (g .unitary);
+            reduced = test-reduced (triple r) (subst T (sym test) (reduced-test (triple t) (g .reduced)));
+            n-small = moved-n l t r e;
+          };
       same = Same-of (moved-same l t r e);
       most = omega (arith, k-same);
       least = omega (arith, k-same);
@@ -217,12 +237,14 @@ acted-H t m r g e a =
 of-byte : {l : Letter} {t r : DOmegaUnitary} (g : ℕ) → letterOf g ≡ l → Acted l t r → Acted (letterOf g) t r
 of-byte {l} {t} {r} g e a = subst (λ (k : Letter). Acted k t r) (sym e) a
 
-pub byte-plain : (l : Letter) (g : ℕ) (t r : DOmegaUnitary) → g ≡ byte l → T (plain l) → Good t → triple r ≡ modEight (act l (triple t)) → Acted (letterOf g) t r
+pub byte-plain : (l : Letter) (g : ℕ) (t r : DOmegaUnitary) → g ≡ byte l → T (plain l) → Good t → triple r ≡ modEight (act l (triple t))
+    → Acted (letterOf g) t r
 byte-plain l g t r b p h e = of-byte g (ap letterOf b ∙ letterOf-byte l) (acted-plain l t r p h e)
 
 pub byte-H : (g : ℕ) (t m r : DOmegaUnitary) → g ≡ byte H → Good t → triple m ≡ modEight (act H (triple t)) → Answers (entries (triple m)) (triple r)
     → Acted (letterOf g) t r
 byte-H g t m r b h e a = of-byte g (ap letterOf b) (acted-H t m r h e a)
 
-pub byte-none : (g : ℕ) (t : DOmegaUnitary) → (g ≡ 72 → ⊥) → (g ≡ 83 → ⊥) → (g ≡ 88 → ⊥) → (g ≡ 87 → ⊥) → (g ≡ 84 → ⊥) → Good t → Acted (letterOf g) t t
+pub byte-none : (g : ℕ) (t : DOmegaUnitary) → (g ≡ 72 → ⊥) → (g ≡ 83 → ⊥) → (g ≡ 88 → ⊥) → (g ≡ 87 → ⊥) → (g ≡ 84 → ⊥) → Good t
+    → Acted (letterOf g) t t
 byte-none g t h s x w v good = of-byte g (rw (ne-eqb g 72 h, ne-eqb g 83 s, ne-eqb g 88 x, ne-eqb g 87 w, ne-eqb g 84 v)) (acted-I t good)

@@ -39,7 +39,8 @@ module _ (k : ℤ) (fits : SFits w64 k) (low : ltZ (held w64 k) (pos 0) ≡ fals
   pub few-inside : natAbs (held w64 k) ≤ deepest
   few-inside = rw (toZ-ofZ fits) (exponent-size k inside)
 
-pub small-inside : {z w : ZOmega} {a b : Bool} → Decides (Sized largest (quad z)) a → not a ≡ false → Decides (Sized largest (quad w)) b → not b ≡ false
+pub small-inside : {z w : ZOmega} {a b : Bool} → Decides (Sized largest (quad z)) a → not a ≡ false → Decides (Sized largest (quad w)) b
+    → not b ≡ false
     → InCoefficients (quad z) (quad w)
 small-inside {z} {w} {a} {b} z-small z-yes w-small w-yes =
     record { z-in = z-small .yes (not-false a z-yes); w-in = w-small .yes (not-false b w-yes) }
@@ -64,7 +65,8 @@ module _ (k : ℤ) (z w : ZOmega) (fits : SFits w64 k) where
     pub refused-w : {b : Bool} → Decides (Sized largest (quad w)) b → not b ≡ true → CheckOutcome k z w Limits.Coefficient
     refused-w {b} d t = outside (λ h. d .no (not-true b t) (h .w-in))
 
-    module _ {a b c : Bool} (z-small : Decides (Sized largest (quad z)) a) (z-yes : not a ≡ false) (w-small : Decides (Sized largest (quad w)) b) (w-yes : not b ≡ false)
+    module _ {a b c : Bool} (z-small : Decides (Sized largest (quad z)) a) (z-yes : not a ≡ false)
+        (w-small : Decides (Sized largest (quad w)) b) (w-yes : not b ≡ false)
         (sums : Decides (UnitaryAt (natAbs (held w64 k)) z w) c) where
       coefficients-passed : (p : ℕ) → (InCoefficients (quad z) (quad w) → ⊥) × (p ≡ 0) → ⊥
       coefficients-passed p h = h .0 (small-inside z-small z-yes w-small w-yes)

@@ -122,7 +122,9 @@ exponent-size x h = go x (h .low .le) (h .high .le)
 
 -- ---- 2 to the k as the machine has it
 pub shifted : (k : ℕ) → k ≤ deepest → toZ w64 (1 * 2 ^ k % 18446744073709551616) ≡ pos (2 ^ k)
-shifted k h = ap (toZ w64) (ap (λ n. n % 18446744073709551616) (one-mul (2 ^ k)) ∙ mod-eq-of-lt (omega (arith, pow-mono h))) ∙ toZ-pos w64 (omega (arith, pow-mono h))
+shifted k h =
+    ap (toZ w64) (ap (λ n. n % 18446744073709551616) (one-mul (2 ^ k)) ∙ mod-eq-of-lt (omega (arith, pow-mono h)))
+    ∙ toZ-pos w64 (omega (arith, pow-mono h))
 
 -- ---- equal bits
 pub same-bits : (x y : ℤ) → SFits w64 x → SFits w64 y → ofZ w64 x ≡ ofZ w64 y → x ≡ y
@@ -130,12 +132,16 @@ same-bits x y f g e = sym (toZ-ofZ f) ∙ ap (toZ w64) e ∙ toZ-ofZ g
 
 -- ---- the two sums, compared in halves
 pub squares-halves : (k : ℕ) (z w : ZOmega) → UnitaryAt k z w → squares ints (quad z) ≡ pos (2 ^ k) -ℤ squares ints (quad w)
-squares-halves k z w u = omega (arith, int, u .squares-sum, sum (squares ints (quad z)) (squares ints (quad w)), difference (pos (2 ^ k)) (squares ints (quad w)))
+squares-halves k z w u =
+    omega
+    (arith, int, u .squares-sum, sum (squares ints (quad z)) (squares ints (quad w)), difference (pos (2 ^ k)) (squares ints (quad w)))
 
 pub crosses-halves : (k : ℕ) (z w : ZOmega) → UnitaryAt k z w → crosses ints (quad z) ≡ pos 0 -ℤ crosses ints (quad w)
-crosses-halves k z w u = omega (arith, int, u .crosses-sum, sum (crosses ints (quad z)) (crosses ints (quad w)), difference (pos 0) (crosses ints (quad w)))
+crosses-halves k z w u =
+    omega (arith, int, u .crosses-sum, sum (crosses ints (quad z)) (crosses ints (quad w)), difference (pos 0) (crosses ints (quad w)))
 
-pub halves-unitary : (k : ℕ) (z w : ZOmega) → squares ints (quad z) ≡ pos (2 ^ k) -ℤ squares ints (quad w) → crosses ints (quad z) ≡ pos 0 -ℤ crosses ints (quad w) → UnitaryAt k z w
+pub halves-unitary : (k : ℕ) (z w : ZOmega) → squares ints (quad z) ≡ pos (2 ^ k) -ℤ squares ints (quad w)
+    → crosses ints (quad z) ≡ pos 0 -ℤ crosses ints (quad w) → UnitaryAt k z w
 halves-unitary k z w s c =
     record {
       squares-sum = omega (arith, int, s, sum (squares ints (quad z)) (squares ints (quad w)), difference (pos (2 ^ k)) (squares ints (quad w)));
@@ -182,9 +188,14 @@ module _ (k : ℕ) (z w : ZOmega) (hk : k ≤ deepest) (h : InCoefficients (quad
     crosses-are : pos 0 -ℤ held w64 b ≡ pos 0 -ℤ crosses ints (quad w)
     crosses-are = ap (λ y. pos 0 -ℤ y) (toZ-ofZ (size-fits y-size) ∙ eb)
 
-    pub crosses-decide : squares ints (quad z) ≡ pos (2 ^ k) -ℤ squares ints (quad w) → Decides (UnitaryAt k z w) (eqb (ofZ w64 a) (ofZ w64 (pos 0 -ℤ held w64 b)))
+    pub crosses-decide : squares ints (quad z) ≡ pos (2 ^ k) -ℤ squares ints (quad w)
+        → Decides (UnitaryAt k z w) (eqb (ofZ w64 a) (ofZ w64 (pos 0 -ℤ held w64 b)))
     crosses-decide s =
         record {
-          yes = λ e. halves-unitary k z w s (sym ea ∙ same-bits a (pos 0 -ℤ held w64 b) (size-fits x-size) crosses-need (eqb-true (ofZ w64 a) (ofZ w64 (pos 0 -ℤ held w64 b)) e) ∙ crosses-are);
+          yes = λ e.
+              halves-unitary k z w s
+              (sym ea
+              ∙ same-bits a (pos 0 -ℤ held w64 b) (size-fits x-size) crosses-need (eqb-true (ofZ w64 a) (ofZ w64 (pos 0 -ℤ held w64 b)) e)
+              ∙ crosses-are);
           no = λ e u. eqb-false (ofZ w64 a) (ofZ w64 (pos 0 -ℤ held w64 b)) e (ap (ofZ w64) (ea ∙ crosses-halves k z w u ∙ sym crosses-are));
         }

@@ -40,7 +40,8 @@ module _ {alphabet : Letter → Bool} (bs : List ℕ) (i : ℕ) (passed : (j : �
 pub scanned-first : {alphabet : Letter → Bool} {bs : List ℕ} {r : ℕ} → Scanned alphabet bs r → r < length bs → FirstOutside alphabet bs r
 scanned-first s h = record { there = h; outside = s .outside h; before = s .before }
 
-pub scanned-all : {alphabet : Letter → Bool} {bs : List ℕ} {r : ℕ} → Scanned alphabet bs r → length bs ≤ r → (i : ℕ) → i < length bs → In alphabet (getD bs i 0)
+pub scanned-all : {alphabet : Letter → Bool} {bs : List ℕ} {r : ℕ} → Scanned alphabet bs r → length bs ≤ r → (i : ℕ) → i < length bs
+    → In alphabet (getD bs i 0)
 scanned-all s h i l = s .before i (omega arith)
 
 -- ---- a letter of job 2

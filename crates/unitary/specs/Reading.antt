@@ -46,9 +46,12 @@ next-letter [] i h = absurd (omega arith)
 next-letter (b ∷ bs) zero h = refl
 next-letter (b ∷ bs) (suc i) h = next-letter bs i (omega arith)
 
-module _ (bs : List ℕ) (i : ℕ) (h : i < length bs) (t r : DOmegaUnitary) (read : Read (lettersOf bs) (suc i) t) (acted : Acted (letterOf (getD bs i 0)) t r) where
+module _ (bs : List ℕ) (i : ℕ) (h : i < length bs) (t r : DOmegaUnitary) (read : Read (lettersOf bs) (suc i) t)
+    (acted : Acted (letterOf (getD bs i 0)) t r) where
   joined : Same (entries (triple r)) (word (drop i (lettersOf bs)))
-  joined = subst (λ (u : List Letter). Same (entries (triple r)) (word u)) (sym (next-letter bs i h)) (Same-trans (acted .same) (Same-mul (Same-refl (Word.letter (letterOf (getD bs i 0)))) (read .same)))
+  joined =
+      subst (λ (u : List Letter). Same (entries (triple r)) (word u)) (sym (next-letter bs i h))
+      (Same-trans (acted .same) (Same-mul (Same-refl (Word.letter (letterOf (getD bs i 0)))) (read .same)))
 
   here : Least (word (drop i (lettersOf bs))) (r .k)
   here = least-same joined (acted .good .reduced .least)
@@ -61,10 +64,15 @@ module _ (bs : List ℕ) (i : ℕ) (h : i < length bs) (t r : DOmegaUnitary) (re
       go start a b false e = read .after start (omega (arith, eqb-false start i e)) b
 
   pub read-deep : deepest < r .k → DeepAt (lettersOf bs) i
-  read-deep l = record { there = omega (arith, length-letters bs); deep = record { k = r .k; least = here; many = l }; after = λ start a b. read .after start a b }
+  read-deep l = record {
+    there = omega (arith, length-letters bs);
+    deep = record { k = r .k; least = here; many = l };
+    after = λ start a b. read .after start a b;
+  }
 
 -- the same, where i is the place after the letter
-module _ (bs : List ℕ) (i : ℕ) (some : 0 < i) (h : i ≤ length bs) (t r : DOmegaUnitary) (read : Read (lettersOf bs) i t) (acted : Acted (letterOf (getD bs (i - 1) 0)) t r) where
+module _ (bs : List ℕ) (i : ℕ) (some : 0 < i) (h : i ≤ length bs) (t r : DOmegaUnitary) (read : Read (lettersOf bs) i t)
+    (acted : Acted (letterOf (getD bs (i - 1) 0)) t r) where
   read′ : Read (lettersOf bs) (suc (i - 1)) t
   read′ = subst (λ (j : ℕ). Read (lettersOf bs) j t) after-it read
     where
@@ -90,11 +98,20 @@ read-start bs t e =
       good = good;
       few = omega (arith, ap (λ u. u .k) e);
       same = nothing-read (length bs) (omega (arith, length-letters bs));
-      after = λ start a b. record { k = t .k; least = least-same (nothing-read start (omega (arith, length-letters bs))) (good .reduced .least); few = omega (arith, ap (λ u. u .k) e) };
+      after = λ start a b.
+          record {
+            k = t .k;
+            least = least-same (nothing-read start (omega (arith, length-letters bs))) (good .reduced .least);
+            few = omega (arith, ap (λ u. u .k) e);
+          };
     }
   where
     good : Good t
-    good = record { unitary = rw e (record { squares-sum = refl; crosses-sum = refl }); reduced = test-reduced (triple t) (rw e tt); n-small = omega (arith, ap (λ u. u .n) e) }
+    good = record {
+      unitary = rw e (record { squares-sum = refl; crosses-sum = refl });
+      reduced = test-reduced (triple t) (rw e tt);
+      n-small = omega (arith, ap (λ u. u .n) e);
+    }
 
     nothing-read : (i : ℕ) → length (lettersOf bs) ≤ i → Same (entries (triple t)) (word (drop i (lettersOf bs)))
     nothing-read i h = subst (λ (u : List Letter). Same (entries (triple t)) (word u)) (sym (drop-all (lettersOf bs) i h)) (Same-of (ap entries e))
@@ -117,12 +134,14 @@ module _ (w : List ℕ) (few : length w ≤ longest) (b : ℕ) (s : Scanned job2
   behind : (r : FromGates) → Outcome stopped (Spelled Multiplies w) (deep w then none) r → MatrixOutcome w r
   behind = pass stopped (Spelled Multiplies w) (long w then letter job2 w then none) (deep w then none) letters-passed
 
-  module _ (i : ℕ) (some : 0 < i) (inside : i ≤ length w) (t r : DOmegaUnitary) (read : Read (lettersOf w) i t) (acted : Acted (letterOf (getD w (i - 1) 0)) t r) where
+  module _ (i : ℕ) (some : 0 < i) (inside : i ≤ length w) (t r : DOmegaUnitary) (read : Read (lettersOf w) i t)
+      (acted : Acted (letterOf (getD w (i - 1) 0)) t r) where
     pub refused-deep : deepest < r .k → (o : FromGates) → o ≡ stopped Limits.Deep (i - 1) → MatrixOutcome w o
     refused-deep l o e =
         behind o (Rung.given (i - 1) (record { letters = lettersOf w; spelled = spelled; holds = step-deep w i some inside t r read acted l }) e)
 
-  pub read-whole : (t : DOmegaUnitary) (i : ℕ) → i ≤ 0 → Read (lettersOf w) i t → MatrixOutcome w (record { refusal = Limits.Accepted; place = 0; matrix = t })
+  pub read-whole : (t : DOmegaUnitary) (i : ℕ) → i ≤ 0 → Read (lettersOf w) i t
+      → MatrixOutcome w (record { refusal = Limits.Accepted; place = 0; matrix = t })
   read-whole t zero h read =
       behind (record { refusal = Limits.Accepted; place = 0; matrix = t })
       (Rung.passed not-deep (record { letters = lettersOf w; spelled = spelled; holds = record { taken = refl; nowhere = refl; answer = answer } }))

@@ -21,7 +21,8 @@ use Rattle.unitary.specs.Triples.{triple, triple-inj, given}
 use Rattle.unitary.specs.Outcomes.{Answers, refused, Reduces, ReduceOutcome, stopped, Multiplies, MatrixOutcome}
 
 -- the answers for a unitary matrix
-one-answer : (t : Triple) → Unitary t → (m : Matrix) → Same (entries t) m → (x y : DOmegaUnitary) → Answers m (triple x) → Answers m (triple y) → x ≡ y
+one-answer : (t : Triple) → Unitary t → (m : Matrix) → Same (entries t) m → (x y : DOmegaUnitary) → Answers m (triple x)
+    → Answers m (triple y) → x ≡ y
 one-answer t u m e x y a b =
     triple-inj
     (answer-unique (unitary-same (Same-trans e (Same-sym (a .same))) u) (a .reduced) (b .reduced) (a .n-small) (b .n-small)

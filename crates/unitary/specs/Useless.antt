@@ -1,5 +1,5 @@
--- Programs that refuse all, or answer one matrix to everything, do not meet the promises of jobs 1 and 2: at named inputs their outcomes are not allowed.
--- Assumes nothing.
+-- Programs that refuse all, or answer one matrix to everything, do not meet the promises of jobs 1 and 2: at named inputs their outcomes
+-- are not allowed. Assumes nothing.
 use mathlib.Core.Path.{_≡_, refl, sym, ap, subst}
 use mathlib.Core.List.{[]}
 use Prim.Native.Nat.{ℕ, suc, _<_}
@@ -38,7 +38,15 @@ taken-as-it-is : (t : DOmegaUnitary) → Taken (pos 0) (quad (t .z)) (quad (t .w
 taken-as-it-is t h e n =
     pass refused (Reduces (entries (given (pos 0) (t .n) (t .z) (t .w)))) (checks (pos 0) (quad (t .z)) (quad (t .w))) none
     (taken-checks (pos 0) (quad (t .z)) (quad (t .w)) h) (record { refusal = 0; matrix = t })
-    (record { taken = refl; answer = record { same = Same-of (ap entries at-0); reduced = subst Reduced (sym at-0) (test-reduced (given (pos 0) (t .n) (t .z) (t .w)) tt); n-small = n } })
+    (record {
+      taken = refl;
+      answer =
+          record {
+            same = Same-of (ap entries at-0);
+            reduced = subst Reduced (sym at-0) (test-reduced (given (pos 0) (t .n) (t .z) (t .w)) tt);
+            n-small = n;
+          };
+    })
   where
     at-0 : triple t ≡ given (pos 0) (t .n) (t .z) (t .w)
     at-0 = λ i. record { k = e i; n = t .n; z = quad (t .z); w = quad (t .w) }
@@ -61,16 +69,26 @@ swap-taken =
 
 empty-taken : MatrixOutcome [] (record { refusal = 0; place = 0; matrix = one })
 empty-taken =
-    read-whole [] (omega arith) 0 (record { most = omega arith; before = λ i h. absurd (omega arith); outside = λ h. absurd (omega arith) }) (omega arith)
+    read-whole [] (omega arith) 0 (record { most = omega arith; before = λ i h. absurd (omega arith); outside = λ h. absurd (omega arith) })
+    (omega arith)
     one 0 (omega arith) (read-start [] one refl)
 
 -- ---- refuses all
 pub no-refusal-1 : (n : ℕ) (m : DOmegaUnitary) → ReduceOutcome (pos 0) 0 (whole 1) (whole 0) (record { refusal = suc n; matrix = m }) → ⊥
-no-refusal-1 n m h = omega (arith, ap (λ (r : Checked). r .refusal) (reduce-unique (pos 0) 0 (whole 1) (whole 0) _ _ (taken-as-it-is one one-taken refl (omega arith)) h))
+no-refusal-1 n m h =
+    omega (
+      arith,
+      ap (λ (r : Checked). r .refusal) (reduce-unique (pos 0) 0 (whole 1) (whole 0) _ _ (taken-as-it-is one one-taken refl (omega arith)) h),
+    )
 
 pub no-refusal-2 : (n p : ℕ) (m : DOmegaUnitary) → MatrixOutcome [] (record { refusal = suc n; place = p; matrix = m }) → ⊥
 no-refusal-2 n p m h = omega (arith, ap (λ (r : FromGates). r .refusal) (matrix-unique [] _ _ empty-taken h))
 
 -- ---- always the identity
 pub not-the-identity-1 : ReduceOutcome (pos 0) 4 (whole 0) (whole 1) (record { refusal = 0; matrix = one }) → ⊥
-not-the-identity-1 h = omega (arith, ap (λ (r : Checked). r .matrix .n) (reduce-unique (pos 0) 4 (whole 0) (whole 1) _ _ (taken-as-it-is swap swap-taken refl (omega arith)) h))
+not-the-identity-1 h =
+    omega (
+      arith,
+      ap (λ (r : Checked). r .matrix .n)
+          (reduce-unique (pos 0) 4 (whole 0) (whole 1) _ _ (taken-as-it-is swap swap-taken refl (omega arith)) h),
+    )

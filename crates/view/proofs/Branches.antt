@@ -72,7 +72,9 @@ module _ (k : ℕ) (u v : ℤ) (f : Fit (over k u v)) (e : k % 2 ≡ 0) where
   even-args = record { A = held (held u +ℤ held u); B = held v; s = (k + 2) / 2 }
 
   even-args-are : even-args ≡ at-even k u v
-  even-args-are = ap₂ (λ a b. record { A = a; B = b; s = (k + 2) / 2 }) (result-by w64 (u ∷ []) (2 ^ 31 ∷ []) (u-31, tt) (arg 0 ∔ arg 0) tt) (held-is v (B-31 (at-even k u v) fit-even))
+  even-args-are =
+      ap₂ (λ a b. record { A = a; B = b; s = (k + 2) / 2 }) (result-by w64 (u ∷ []) (2 ^ 31 ∷ []) (u-31, tt) (arg 0 ∔ arg 0) tt)
+      (held-is v (B-31 (at-even k u v) fit-even))
 
   pub doubled-fits : SFits w64 (held u +ℤ held u)
   doubled-fits = need-by w64 (u ∷ []) (2 ^ 31 ∷ []) (u-31, tt) (arg 0 ∔ arg 0) tt
@@ -91,7 +93,9 @@ module _ (k : ℕ) (u v : ℤ) (f : Fit (over k u v)) (e : k % 2 ≡ 0 → ⊥) 
   odd-args = record { A = held v; B = held u; s = (k + 2) / 2 }
 
   odd-args-are : odd-args ≡ at-odd k u v
-  odd-args-are = ap₂ (λ a b. record { A = a; B = b; s = (k + 2) / 2 }) (held-is v (A-31 (at-odd k u v) fit-odd)) (held-is u (B-31 (at-odd k u v) fit-odd))
+  odd-args-are =
+      ap₂ (λ a b. record { A = a; B = b; s = (k + 2) / 2 }) (held-is v (A-31 (at-odd k u v) fit-odd))
+      (held-is u (B-31 (at-odd k u v) fit-odd))
 
   pub asked-odd : Asks odd-args
   asked-odd = subst Asks (sym odd-args-are) (asked (at-odd k u v) fit-odd)

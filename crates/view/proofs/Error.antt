@@ -3,7 +3,8 @@
 use mathlib.Core.Path.{_≡_, refl, sym, ap, _∙_, subst}
 use mathlib.Core.Bool.{Bool, true, false, cond}
 use Prim.Native.Nat.{ℕ, suc, _+_, _-_, _*_, _^_, _≤_, _<_, zero-le}
-use native.Mathlib.Nat.{le-trans, le-of-eq, zero-mul, add-mul, mul-assoc, mul-comm, mul-right-comm, mul-le-mul, mul-le-mul-left, le-of-mul-le-mul-right, mul-mul-mul-comm}
+use native.Mathlib.Nat.{le-trans, le-of-eq, zero-mul, add-mul, mul-assoc, mul-comm, mul-right-comm, mul-le-mul, mul-le-mul-left}
+use native.Mathlib.Nat.{le-of-mul-le-mul-right, mul-mul-mul-comm}
 use native.Mathlib.Omega.{arith}
 use lib.IntN.{ℤ, pos, negsuc, natAbs}
 use lib.Dec.{lit≤, lit<}
@@ -87,7 +88,8 @@ pub halve : (h w o : ℕ) → h * 2 ≤ w * 2 + o * 2 → h ≤ w + o
 halve h w o a = omega arith
 
 -- the result is gp - gm, the whole part xp - xm, the other part y > 0 without its √2, and o is 2 ^ 1021
-plus : (gp gm xp xm y y' w h o : ℕ) → y' ≡ 0 → w * K ≡ y * H → h ≤ w + o → w ≤ h + o → (gp + xm + 0) * 2 ≤ (gm + xp + h) * 2 + o * 4 → (gm + xp + h) * 2 ≤ (gp + xm + 0) * 2 + o * 4 → y ≤ o * K
+plus : (gp gm xp xm y y' w h o : ℕ) → y' ≡ 0 → w * K ≡ y * H → h ≤ w + o → w ≤ h + o → (gp + xm + 0) * 2 ≤ (gm + xp + h) * 2 + o * 4
+    → (gm + xp + h) * 2 ≤ (gp + xm + 0) * 2 + o * 4 → y ≤ o * K
     → Below (gp + xm) (gm + xp + 4 * o) y y' × Below (gm + xp) (gp + xm + 4 * o) y' y
 plus gp gm xp xm y y' w h o z e a b m l c = (
   core-most (gp + xm) (gm + xp) y y' w h o z e a (first (gp + xm) (gm + xp) m) c,
@@ -107,9 +109,11 @@ Parts gp gm a b v o =
 -- what `Summed` says of the sum, in the parts of a
 abbrev pub Facts : ℕ → ℕ → ℕ → ℕ → ℤ → ℕ → ℕ → Type 0
 Facts gp gm xp xm b h o =
-    ((gp + xm + cond (isNeg b) h 0) * 2 ≤ (gm + xp + cond (isNeg b) 0 h) * 2 + o * 4) × ((gm + xp + cond (isNeg b) 0 h) * 2 ≤ (gp + xm + cond (isNeg b) h 0) * 2 + o * 4)
+    ((gp + xm + cond (isNeg b) h 0) * 2 ≤ (gm + xp + cond (isNeg b) 0 h) * 2 + o * 4)
+    × ((gm + xp + cond (isNeg b) 0 h) * 2 ≤ (gp + xm + cond (isNeg b) h 0) * 2 + o * 4)
 
-pub join : (gp gm : ℕ) (a b : ℤ) (v w h o : ℕ) → w * K ≡ natAbs b * v * H → h ≤ w + o → w ≤ h + o → Facts gp gm (up a * v) (down a * v) b h o → natAbs b * v ≤ o * K → Parts gp gm a b v o
+pub join : (gp gm : ℕ) (a b : ℤ) (v w h o : ℕ) → w * K ≡ natAbs b * v * H → h ≤ w + o → w ≤ h + o
+    → Facts gp gm (up a * v) (down a * v) b h o → natAbs b * v ≤ o * K → Parts gp gm a b v o
 join gp gm a (pos n) v w h o e k l f c = plus gp gm (up a * v) (down a * v) (n * v) (0 * v) w h o (zero-mul v) e k l (f .0) (f .1) c
 join gp gm a (negsuc n) v w h o e k l f c =
     let r = plus gm gp (down a * v) (up a * v) (suc n * v) (0 * v) w h o (zero-mul v) e k l (f .1) (f .0) c in (r .1, r .0)
@@ -159,4 +163,6 @@ unscale-least g s t n x h o q Q k =
 
 pub cancel-one : (h w o q : ℕ) → 0 < q → h * q * 2 ≤ w * q * 2 + o * q → h * 2 ≤ w * 2 + o
 cancel-one h w o q Q k =
-    le-of-mul-le-mul-right (le-trans (le-of-eq (mul-right-comm h 2 q)) (le-trans k (le-of-eq (sym (add-mul (w * 2) o q ∙ ap (λ (z : ℕ). z + o * q) (mul-right-comm w 2 q)))))) Q
+    le-of-mul-le-mul-right
+    (le-trans (le-of-eq (mul-right-comm h 2 q))
+    (le-trans k (le-of-eq (sym (add-mul (w * 2) o q ∙ ap (λ (z : ℕ). z + o * q) (mul-right-comm w 2 q)))))) Q

@@ -22,7 +22,8 @@ crossed x g c b a d y e h k =
     let r : a * e * (y * d) ≡ a * d * (y * e) = simp (mul-assoc, mul-comm, mul-left-comm) in
     l ∙ ap (λ (z : ℕ). z * (b * g)) h ∙ ap (λ (z : ℕ). a * e * z) (sym k) ∙ r
 
-pub div-of : (f : Format) (x y : Float) (s t : Bool) (a c b d : ℕ) → 0 < c → 0 < d → 0 < b → HasValue x s a c → HasValue y t b d → div f x y ≡ round f (unlike s t) (a * d) (c * b)
+pub div-of : (f : Format) (x y : Float) (s t : Bool) (a c b d : ℕ) → 0 < c → 0 < d → 0 < b → HasValue x s a c → HasValue y t b d
+    → div f x y ≡ round f (unlike s t) (a * d) (c * b)
 unfolding div
 div-of f nan y s t a c b d C D B h k = absurd h
 div-of f (inf u) y s t a c b d C D B h k = absurd h
@@ -30,7 +31,8 @@ div-of f (fin u m e) nan s t a c b d C D B h k = absurd k
 div-of f (fin u m e) (inf v) s t a c b d C D B h k = absurd k
 div-of f (fin u m e) (fin v n g) s t a c b d C D B h k =
     let N : 0 < n * up g = first-pos (n * up g) d (subst (λ (z : ℕ). 0 < z) (sym (k .1)) (mul-pos B (down-pos g))) in
-    go (cond (eqb m 0) nan (inf (unlike u v))) (round f (unlike u v) (m * up e * down g) (n * up g * down e)) (eqb n 0) (eqb→eq n 0) (first-pos n (up g) N)
+    go (cond (eqb m 0) nan (inf (unlike u v))) (round f (unlike u v) (m * up e * down g) (n * up g * down e)) (eqb n 0) (eqb→eq n 0)
+    (first-pos n (up g) N)
     ∙ ap (λ (z : Bool). round f (unlike z v) (m * up e * down g) (n * up g * down e)) (h .0)
     ∙ ap (λ (z : Bool). round f (unlike s z) (m * up e * down g) (n * up g * down e)) (k .0)
     ∙ round-same f (unlike s t) (m * up e * down g) (n * up g * down e) (a * d) (c * b) (mul-pos N (down-pos e)) (mul-pos C B)
@@ -59,7 +61,8 @@ power-casts s h = subst (λ (z : ℕ). T (inFloat binary64 (pos z))) (sym (shift
 pub power-is : (s : ℕ) → s ≤ 52 → div binary64 one (ofInt binary64 (pos (1 * 2 ^ s % 2 ^ 64))) ≡ half^ s
 power-is s h =
     ap (λ (z : ℕ). div binary64 one (ofInt binary64 (pos z))) (shifted s h)
-    ∙ div-of binary64 one (ofInt binary64 (pos (2 ^ s))) false false 1 1 (2 ^ s) 1 (lit< tt) (lit< tt) (pow-pos s) one-value (cast-value (pos (2 ^ s)) (small s h))
+    ∙ div-of binary64 one (ofInt binary64 (pos (2 ^ s))) false false 1 1 (2 ^ s) 1 (lit< tt) (lit< tt) (pow-pos s) one-value
+    (cast-value (pos (2 ^ s)) (small s h))
     ∙ ap (λ (z : ℕ). round binary64 false 1 z) (one-mul (2 ^ s))
 
 pub half-value : (s : ℕ) → s ≤ 52 → HasValue (half^ s) false 1 (2 ^ s)

@@ -17,16 +17,22 @@ use Rattle.view.proofs.Operations.{mul-of}
 use Rattle.view.proofs.Units.{unlike-false, whole-power, room, exact, exact-small, pow-up, shift-lt, reach}
 use Rattle.view.proofs.Error.{cancel-one}
 
-rounded-product : (y : Float) (t : Bool) (n s : ℕ) → s ≤ 52 → n ≤ 2 ^ s → HasValue y t n 1 → Rounded binary64 (mul binary64 y rootTwo) t (exact n s * 2 ^ s) (2 ^ (s + 1022))
+rounded-product : (y : Float) (t : Bool) (n s : ℕ) → s ≤ 52 → n ≤ 2 ^ s → HasValue y t n 1
+    → Rounded binary64 (mul binary64 y rootTwo) t (exact n s * 2 ^ s) (2 ^ (s + 1022))
 rounded-product y t n s S N hy =
     let is : mul binary64 y rootTwo ≡ round binary64 t (n * Rn) (1 * 2 ^ 52) =
-    mul-of binary64 y rootTwo t false n 1 Rn (2 ^ 52) (lit< tt) (pow-pos 52) hy root-value ∙ ap (λ (z : Bool). round binary64 z (n * Rn) (1 * 2 ^ 52)) (unlike-false t) in
+    mul-of binary64 y rootTwo t false n 1 Rn (2 ^ 52) (lit< tt) (pow-pos 52) hy root-value
+    ∙ ap (λ (z : Bool). round binary64 z (n * Rn) (1 * 2 ^ 52)) (unlike-false t) in
     subst (λ (z : Float). Rounded binary64 z t (exact n s * 2 ^ s) (2 ^ (s + 1022))) (sym is)
     (round-near binary64 t (n * Rn) (1 * 2 ^ 52) (exact n s * 2 ^ s) (s + 1022) (lit< tt)
-    (whole n Rn (2 ^ (1022 - s)) (2 ^ s) (2 ^ 1022) (whole-power 1022 s (room s 1022 S (lit≤ tt)))) (shift-lt (exact n s) s 1075 53 1022 refl (exact-small n s S N)) (reach s 1022 S (lit≤ tt)))
+    (whole n Rn (2 ^ (1022 - s)) (2 ^ s) (2 ^ 1022) (whole-power 1022 s (room s 1022 S (lit≤ tt))))
+    (shift-lt (exact n s) s 1075 53 1022 refl (exact-small n s S N)) (reach s 1022 S (lit≤ tt)))
   where
     whole : (n r t q k : ℕ) → t * q ≡ k → n * r * (k * 2 ^ 52) ≡ n * r * t * q * 2 ^ 52
-    whole n r t q k e = ap (λ (z : ℕ). n * r * (z * 2 ^ 52)) (sym e) ∙ sym (mul-assoc (n * r) (t * q) (2 ^ 52)) ∙ ap (λ (z : ℕ). z * 2 ^ 52) (sym (mul-assoc (n * r) t q))
+    whole n r t q k e =
+        ap (λ (z : ℕ). n * r * (z * 2 ^ 52)) (sym e)
+        ∙ sym (mul-assoc (n * r) (t * q) (2 ^ 52))
+        ∙ ap (λ (z : ℕ). z * 2 ^ 52) (sym (mul-assoc (n * r) t q))
 
 pub record Product (y : Float) (b : ℤ) (s : ℕ) : Type 0 where
   pub h : ℕ
@@ -48,5 +54,7 @@ product y b s S B hy =
       value = subst (λ (z : ℕ). HasValue (mul binary64 y rootTwo) (isNeg b) z (2 ^ 1074)) (m .1) (p .value);
       most = cancel-one (m .0) w (2 ^ 1022) q (pow-pos s) (subst (λ (z : ℕ). m .0 * q * 2 ≤ w * q * 2 + z) (pow-up s 1022) up);
       least = cancel-one w (m .0) (2 ^ 1022) q (pow-pos s) (subst (λ (z : ℕ). w * q * 2 ≤ m .0 * q * 2 + z) (pow-up s 1022) dn);
-      below-zero = λ t. subst (λ (z : ℕ). 0 < z) (m .1) (p .positive (mul-pos (mul-pos (mul-pos (neg-positive b t) (lit< tt)) (pow-pos (1022 - s))) (pow-pos s)));
+      below-zero = λ t.
+          subst (λ (z : ℕ). 0 < z) (m .1)
+          (p .positive (mul-pos (mul-pos (mul-pos (neg-positive b t) (lit< tt)) (pow-pos (1022 - s))) (pow-pos s)));
     }

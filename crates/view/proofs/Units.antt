@@ -1,9 +1,11 @@
--- Values in units of 2 to the -1074: powers of two, the product by the root-two constant, and the scaling by 2 to the -s, which is exact. Assumes nothing.
+-- Values in units of 2 to the -1074: powers of two, the product by the root-two constant, and the scaling by 2 to the -s, which is exact.
+-- Assumes nothing.
 use mathlib.Core.Path.{_≡_, refl, sym, ap, _∙_, subst}
 use mathlib.Core.Logic.{_⊎_, inl, inr}
 use mathlib.Core.Bool.{Bool, true, false, not}
 use Prim.Native.Nat.{ℕ, suc, _+_, _-_, _*_, _^_, _≤_, _<_}
-use native.Mathlib.Nat.{le-trans, le-of-eq, lt-of-le-of-lt, eq-or-lt-of-le, mul-one, mul-assoc, mul-comm, mul-right-comm, mul-le-mul-left, mul-le-mul-right, lt-of-mul-lt-mul-right, mul-pos, eq-of-mul-eq-mul-right}
+use native.Mathlib.Nat.{le-trans, le-of-eq, lt-of-le-of-lt, eq-or-lt-of-le, mul-one, mul-assoc, mul-comm, mul-right-comm, mul-le-mul-left}
+use native.Mathlib.Nat.{mul-le-mul-right, lt-of-mul-lt-mul-right, mul-pos, eq-of-mul-eq-mul-right}
 use native.Mathlib.Omega.{arith}
 use lib.Dec.{T, leb, leb→le, nleb→lt, lit≤, lit<}
 use lib.Pow.{pow-add, pow-pos, pow-lt, shl-lt}
@@ -19,7 +21,11 @@ rescale (inf t) s a c b d C h v = v
 rescale (fin t m e) s a c b d C h v = (
   v .0,
   eq-of-mul-eq-mul-right c C (m * up e * d) (b * down e)
-      (mul-right-comm (m * up e) d c ∙ ap (λ (x : ℕ). x * d) (v .1) ∙ mul-right-comm a (down e) d ∙ ap (λ (x : ℕ). x * down e) h ∙ mul-right-comm b c (down e)),
+      (mul-right-comm (m * up e) d c
+      ∙ ap (λ (x : ℕ). x * d) (v .1)
+      ∙ mul-right-comm a (down e) d
+      ∙ ap (λ (x : ℕ). x * down e) h
+      ∙ mul-right-comm b c (down e)),
 )
 
 pub unlike-false : (s : Bool) → unlike s false ≡ s
@@ -97,7 +103,8 @@ few-digits n s k d e l = go (leb s d) (leb→le s d) (nleb→lt s d)
         stretch x y h = omega arith
 
 -- ---- the exact scaling of n * 2 ^ s units to n units
-pub scale-exact : (x p : Float) (t : Bool) (n s k d : ℕ) → HasValue x t (n * 2 ^ s) (2 ^ 1074) → n * 2 ^ s ≡ k * 2 ^ d → k ≤ 2 ^ 53 → n < 2 ^ 2098 → HasValue p false 1 (2 ^ s) → HasValue (mul binary64 x p) t n (2 ^ 1074)
+pub scale-exact : (x p : Float) (t : Bool) (n s k d : ℕ) → HasValue x t (n * 2 ^ s) (2 ^ 1074) → n * 2 ^ s ≡ k * 2 ^ d → k ≤ 2 ^ 53
+    → n < 2 ^ 2098 → HasValue p false 1 (2 ^ s) → HasValue (mul binary64 x p) t n (2 ^ 1074)
 unfolding Short
 scale-exact x p t n s k d hx e l fine hp =
     let c = 2 ^ s in
@@ -105,10 +112,13 @@ scale-exact x p t n s k d hx e l fine hp =
     let z = few-digits n s k d e l in
     let D : 0 < U * c = mul-pos (pow-pos 1074) (pow-pos s) in
     let same : n * c * 1 * U ≡ n * (U * c) = turned n c U in
-    let is : mul binary64 x p ≡ round binary64 t (n * c * 1) (U * c) = mul-of binary64 x p t false (n * c) U 1 c (pow-pos 1074) (pow-pos s) hx hp ∙ ap (λ (b : Bool). round binary64 b (n * c * 1) (U * c)) (unlike-false t) in
+    let is : mul binary64 x p ≡ round binary64 t (n * c * 1) (U * c) =
+    mul-of binary64 x p t false (n * c) U 1 c (pow-pos 1074) (pow-pos s) hx hp
+    ∙ ap (λ (b : Bool). round binary64 b (n * c * 1) (U * c)) (unlike-false t) in
     subst (λ (w : Float). HasValue w t n U) (sym is)
     (rescale (round binary64 t (n * c * 1) (U * c)) t (n * c * 1) (U * c) n U D same
-    (round-exact binary64 t (n * c * 1) (U * c) (z .0) (z .1) D (z .2) (subst (λ (w : ℕ). w < 2 ^ 2098) (z .3) fine) (same ∙ ap (λ (w : ℕ). w * (U * c)) (z .3))))
+    (round-exact binary64 t (n * c * 1) (U * c) (z .0) (z .1) D (z .2) (subst (λ (w : ℕ). w < 2 ^ 2098) (z .3) fine)
+    (same ∙ ap (λ (w : ℕ). w * (U * c)) (z .3))))
   where
     turned : (n c U : ℕ) → n * c * 1 * U ≡ n * (U * c)
     turned n c U = ap (λ (w : ℕ). w * U) (mul-one (n * c)) ∙ mul-assoc n c U ∙ ap (λ (w : ℕ). n * w) (mul-comm c U)

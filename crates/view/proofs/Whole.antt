@@ -30,7 +30,8 @@ pub record Valued (r : Float) (a b : ℤ) (s : ℕ) : Type 0 where
   pub below-zero : T neg → 0 < num
   pub close : Parts (cond neg 0 num) (cond neg num 0) a b (2 ^ (1074 - s)) (2 ^ 1021)
 
-module _ (x y p : Float) (a b : ℤ) (s : ℕ) (S : s ≤ 52) (A : natAbs a ≤ 2 ^ s) (B : natAbs b ≤ 2 ^ s) (hx : HasValue x (isNeg a) (natAbs a) 1) (hp : HasValue p false 1 (2 ^ s)) (m : Product y b s) where
+module _ (x y p : Float) (a b : ℤ) (s : ℕ) (S : s ≤ 52) (A : natAbs a ≤ 2 ^ s) (B : natAbs b ≤ 2 ^ s)
+    (hx : HasValue x (isNeg a) (natAbs a) 1) (hp : HasValue p false 1 (2 ^ s)) (m : Product y b s) where
   abbrev q : ℕ
   q = 2 ^ s
 
@@ -48,7 +49,9 @@ module _ (x y p : Float) (a b : ℤ) (s : ℕ) (S : s ≤ 52) (A : natAbs a ≤ 
 
   -- ---- the sum, in units of which q are one
   x-value : HasValue x (isNeg a) (natAbs a * v * q) (2 ^ 1074)
-  x-value = rescale x (isNeg a) (natAbs a) 1 (natAbs a * v * q) (2 ^ 1074) (lit< tt) (wider (natAbs a) v q (2 ^ 1074) (whole-power 1074 s (room s 1074 S (lit≤ tt)))) hx
+  x-value =
+      rescale x (isNeg a) (natAbs a) 1 (natAbs a * v * q) (2 ^ 1074) (lit< tt)
+      (wider (natAbs a) v q (2 ^ 1074) (whole-power 1074 s (room s 1074 S (lit≤ tt)))) hx
     where
       wider : (n v q U : ℕ) → v * q ≡ U → n * U ≡ n * v * q * 1
       wider n v q U e = ap (λ (z : ℕ). n * z) (sym e) ∙ sym (mul-assoc n v q) ∙ sym (mul-one (n * v * q))
@@ -56,7 +59,8 @@ module _ (x y p : Float) (a b : ℤ) (s : ℕ) (S : s ≤ 52) (A : natAbs a ≤ 
   small : natAbs a * v * q + m .h * q < 2 ^ (53 + (s + 1023))
   small =
       subst (λ (z : ℕ). z < 2 ^ (53 + (s + 1023))) (add-mul (natAbs a * v) (m .h) q)
-      (shift-lt (natAbs a * v + m .h) s 1076 53 1023 refl (sum-small (natAbs a * v) (m .h) w (2 ^ 1021) (pow-pos 1021) a-most (m .most) (exact-small (natAbs b) s S B)))
+      (shift-lt (natAbs a * v + m .h) s 1076 53 1023 refl
+      (sum-small (natAbs a * v) (m .h) w (2 ^ 1021) (pow-pos 1021) a-most (m .most) (exact-small (natAbs b) s S B)))
 
   the-sum : Summed binary64 (add binary64 x (mul binary64 y rootTwo)) (isNeg a) (natAbs a * v * q) (isNeg b) (m .h * q) (2 ^ (s + 1023))
   the-sum =
@@ -65,7 +69,8 @@ module _ (x y p : Float) (a b : ℤ) (s : ℕ) (S : s ≤ 52) (A : natAbs a ≤ 
 
   sum-small-enough : the-sum .num < 2 ^ 2098
   sum-small-enough =
-      under (the-sum .num) (natAbs a * v * q + m .h * q) (2 ^ (53 + (s + 1023))) (2 ^ (s + 1023)) (2 ^ 2098) (the-sum .bound) small (pow-mono (after s)) (le-trans (le-of-eq (sym (double (53 + (s + 1023))))) (pow-mono (below s S)))
+      under (the-sum .num) (natAbs a * v * q + m .h * q) (2 ^ (53 + (s + 1023))) (2 ^ (s + 1023)) (2 ^ 2098) (the-sum .bound) small
+      (pow-mono (after s)) (le-trans (le-of-eq (sym (double (53 + (s + 1023))))) (pow-mono (below s S)))
     where
       after : (s : ℕ) → s + 1023 ≤ 53 + (s + 1023)
       after s = omega arith
@@ -105,7 +110,8 @@ module _ (x y p : Float) (a b : ℤ) (s : ℕ) (S : s ≤ 52) (A : natAbs a ≤ 
       value =
           scale-exact (add binary64 x (mul binary64 y rootTwo)) p g n s (the-sum .kept) (the-sum .drop)
           (subst (λ (z : ℕ). HasValue (add binary64 x (mul binary64 y rootTwo)) g z (2 ^ 1074)) e (the-sum .value))
-          (sym e ∙ the-sum .digits) (the-sum .kept-le) (lt-of-le-of-lt (self n q (pow-pos s)) (subst (λ (z : ℕ). z < 2 ^ 2098) e sum-small-enough)) hp;
+          (sym e ∙ the-sum .digits) (the-sum .kept-le)
+          (lt-of-le-of-lt (self n q (pow-pos s)) (subst (λ (z : ℕ). z < 2 ^ 2098) e sum-small-enough)) hp;
       below-zero = λ t. first-pos n q (subst (λ (z : ℕ). 0 < z) e (the-sum .below-zero t));
       close =
           join (cond g 0 n) (cond g n 0) a b v w (m .h) (2 ^ 1021) (exact-is (natAbs b) s S)
@@ -143,6 +149,8 @@ shows-of x y p q S A B ex ey ep =
     let ha = cast-value (q .A) (wide (q .A) (q .s) S A) in
     let hb = cast-value (q .B) (wide (q .B) (q .s) S B) in
     rw (ex, ey, ep) (record {
-      near = near-of (q .A) (q .B) (q .s) (valued a b (half^ (q .s)) (q .A) (q .B) (q .s) S A B ha (half-value (q .s) S) (product b (q .B) (q .s) S B hb));
+      near =
+          near-of (q .A) (q .B) (q .s)
+          (valued a b (half^ (q .s)) (q .A) (q .B) (q .s) S A B ha (half-value (q .s) S) (product b (q .B) (q .s) S B hb));
       is = refl;
     })

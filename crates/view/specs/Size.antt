@@ -56,7 +56,9 @@ size-conj x = ap natAbs (solve ints ints-laws (parts x []) (squares exprs (conjQ
 
 size-omega : (x u : Ω) → size (mulQ ints x (mulQ ints (omega′ ints) u)) ≡ size (mulQ ints x u)
 unfolding size
-size-omega x u = ap natAbs (solve ints ints-laws (parts x (parts u [])) (squares exprs (mulQ exprs X₀ (mulQ exprs (omega′ exprs) X₁))) (squares exprs (mulQ exprs X₀ X₁)) tt)
+size-omega x u =
+    ap natAbs (solve ints ints-laws (parts x (parts u [])) (squares exprs (mulQ exprs X₀ (mulQ exprs (omega′ exprs) X₁)))
+    (squares exprs (mulQ exprs X₀ X₁)) tt)
 
 size-power : (x : Ω) (n : ℕ) → size (mulQ ints x (omega^ n)) ≡ size x
 size-power x zero = ap size (omegas-laws .mul-comm x (omega^ 0) ∙ omegas-laws .one-mul x)
@@ -78,7 +80,10 @@ positive : (m n : ℕ) → m < n → 0 < n
 positive m n h = omega arith
 
 root-le : (n m : ℕ) → n * n ≤ m * m → n ≤ m
-root-le n m h = le-of-suc-le-suc (lt-of-not-le (λ (g : suc m ≤ n). not-le-of-lt (lt-of-le-of-lt (mul-le-mul-left m (le-of-lt g)) (mul-lt-mul-of-pos-right g (positive m n g))) h))
+root-le n m h =
+    le-of-suc-le-suc
+    (lt-of-not-le
+    (λ (g : suc m ≤ n). not-le-of-lt (lt-of-le-of-lt (mul-le-mul-left m (le-of-lt g)) (mul-lt-mul-of-pos-right g (positive m n g))) h))
 
 pub coefficients : (x : Ω) → size x ≤ 2 ^ 60 → Sized (2 ^ 30) x
 coefficients x h = record {

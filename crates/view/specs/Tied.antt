@@ -77,7 +77,8 @@ tied k u v y f h = record { same = go (even k) (eqb→eq (k % 2) 0) (λ t e. abs
     other k e = omega arith
 
     go : (e : Bool) → (T e → k % 2 ≡ 0) → (T (not e) → k % 2 ≡ 0 → ⊥)
-        → mulQ ints (constQ ints (pos (2 ^ ((k + 2) / 2)))) y ≡ mulQ ints two (mulQ ints f (mulQ ints (root2^ k) (surd (record { A = cond e (u +ℤ u) v; B = cond e v u; s = (k + 2) / 2 }))))
+        → mulQ ints (constQ ints (pos (2 ^ ((k + 2) / 2)))) y
+        ≡ mulQ ints two (mulQ ints f (mulQ ints (root2^ k) (surd (record { A = cond e (u +ℤ u) v; B = cond e v u; s = (k + 2) / 2 }))))
     go true e o =
         left
         ∙ ring₄ omegas omegas-laws (λ p t f g. (p ⊗ t) ⊗ (f ⊗ g)) (λ p t f g. t ⊗ (f ⊗ (p ⊗ g))) tt p two f (doubled u v)
@@ -85,14 +86,17 @@ tied k u v y f h = record { same = go (even k) (eqb→eq (k % 2) 0) (λ t e. abs
     go false e o =
         left
         ∙ ap (λ g. mulQ ints (mulQ ints p two) (mulQ ints f g)) (sym (lifted u v))
-        ∙ solve omegas omegas-laws (p ∷ two ∷ f ∷ root2 ints ∷ surd (record { A = v; B = u; s = 0 }) ∷ []) ((var 0 ⊗ var 1) ⊗ (var 2 ⊗ (var 3 ⊗ var 4))) (var 1 ⊗ (var 2 ⊗ ((var 3 ⊗ var 0) ⊗ var 4))) tt
+        ∙ solve omegas omegas-laws (p ∷ two ∷ f ∷ root2 ints ∷ surd (record { A = v; B = u; s = 0 }) ∷ [])
+        ((var 0 ⊗ var 1) ⊗ (var 2 ⊗ (var 3 ⊗ var 4))) (var 1 ⊗ (var 2 ⊗ ((var 3 ⊗ var 0) ⊗ var 4))) tt
         ∙ ap (λ r. mulQ ints two (mulQ ints f (mulQ ints r (surd (record { A = v; B = u; s = 0 }))))) (sym (root-odd k (other k (o tt))))
 
 -- ---- the two parts of a number
 pub real-is : (k : ℕ) (x : Ω) → Is k (addQ ints x (conjQ ints x)) (constQ ints (pos 1)) (real k x)
 real-is k x = tied k (x .d) (x .c -ℤ x .a) (addQ ints x (conjQ ints x)) (constQ ints (pos 1))
-    (solveQ ints ints-laws (parts x []) (addQ exprs X₀ (conjQ exprs X₀)) (mulQ exprs (scalar (con (pos 1))) (twice (X₀ .d) (X₀ .c ⊝ X₀ .a))) (tt, tt, tt, tt))
+    (solveQ ints ints-laws (parts x []) (addQ exprs X₀ (conjQ exprs X₀)) (mulQ exprs (scalar (con (pos 1))) (twice (X₀ .d) (X₀ .c ⊝ X₀ .a)))
+    (tt, tt, tt, tt))
 
 pub imaginary-is : (k : ℕ) (x : Ω) → Is k (addQ ints x (negQ ints (conjQ ints x))) (omega^ 2) (imaginary k x)
 imaginary-is k x = tied k (x .b) (x .c +ℤ x .a) (addQ ints x (negQ ints (conjQ ints x))) (omega^ 2)
-    (solveQ ints ints-laws (parts x []) (addQ exprs X₀ (negQ exprs (conjQ exprs X₀))) (mulQ exprs (power (quads exprs) (omega′ exprs) 2) (twice (X₀ .b) (X₀ .c ⊕ X₀ .a))) (tt, tt, tt, tt))
+    (solveQ ints ints-laws (parts x []) (addQ exprs X₀ (negQ exprs (conjQ exprs X₀)))
+    (mulQ exprs (power (quads exprs) (omega′ exprs) 2) (twice (X₀ .b) (X₀ .c ⊕ X₀ .a))) (tt, tt, tt, tt))

@@ -55,7 +55,8 @@ module _ (k : ℤ) (z w : Ω) where
   checks-taken h =
       record {
         exponent-in = record { low = low; high = high };
-        coefficients-in = record { z-in = stable-sized z (λ f. not-small (λ i. f (i .z-in))); w-in = stable-sized w (λ f. not-small (λ i. f (i .w-in))) };
+        coefficients-in =
+            record { z-in = stable-sized z (λ f. not-small (λ i. f (i .z-in))); w-in = stable-sized w (λ f. not-small (λ i. f (i .w-in))) };
         unitary-there = λ n. record { squares-sum = squares-sum; crosses-sum = crosses-sum };
       }
     where

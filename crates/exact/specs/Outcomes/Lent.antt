@@ -29,11 +29,13 @@ module _ {A H : Type 0} (text : A → List ℕ) (counts : A → H) (Answer : A �
     pub written-there : (size : H → ℕ) → ((n p : ℕ) → size (refused n p) ≡ 0) → ((v : A) → size (counts v) ≡ length (text v)) → (fs : Refusals)
         → (r : Lent H) → Outcome (untouched refused old) (Writes text counts Answer old) fs r → size (r .handed) ≤ length (r .buffer)
     written-there size nothing all fs =
-        always (untouched refused old) (Writes text counts Answer old) (λ (r : Lent H). size (r .handed) ≤ length (r .buffer)) (λ n p. omega (arith, nothing n p)) fs
+        always (untouched refused old) (Writes text counts Answer old) (λ (r : Lent H). size (r .handed) ≤ length (r .buffer))
+        (λ n p. omega (arith, nothing n p)) fs
         (λ h r x. rw (x .is) (omega (arith, all (x .v), length-append (text (x .v)) (drop (length (text (x .v))) old))))
 
 -- the same answers, handed on by f
-module _ {A H K : Type 0} (text : A → List ℕ) (counts : A → H) (counts′ : A → K) (Answer Answer′ : A → Type 0) (old : List ℕ) (refused : ℕ → ℕ → H) (refused′ : ℕ → ℕ → K) (f : H → K) where
+module _ {A H K : Type 0} (text : A → List ℕ) (counts : A → H) (counts′ : A → K) (Answer Answer′ : A → Type 0) (old : List ℕ)
+    (refused : ℕ → ℕ → H) (refused′ : ℕ → ℕ → K) (f : H → K) where
   pub written-as : ((n p : ℕ) → f (refused n p) ≡ refused′ n p) → ((v : A) → f (counts v) ≡ counts′ v)
       → ((v : A) → Answer v → Answer′ v) → ((v : A) → Answer′ v → Answer v)
       → (r : Lent H) → Written text counts Answer old refused r → Written text counts′ Answer′ old refused′ (lent (f (r .handed)) (r .buffer))

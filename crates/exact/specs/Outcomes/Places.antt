@@ -30,7 +30,8 @@ not-both s d = omega (arith, s .few, d .many, least-unique (s .least) (d .least)
 -- ---- of the letters that the bytes spell
 pub one-spelled : {A : Type 0} (Of : List Letter → A → Type 0) → ((u : List Letter) → Only (Of u)) → (w : List ℕ) → Only (Spelled Of w)
 one-spelled Of one w a b x y =
-    one (x .letters) a b (x .holds) (subst (λ (u : List Letter). Of u b) (bytes-inj (y .letters) (x .letters) (y .spelled ∙ sym (x .spelled))) (y .holds))
+    one (x .letters) a b (x .holds)
+    (subst (λ (u : List Letter). Of u b) (bytes-inj (y .letters) (x .letters) (y .spelled ∙ sym (x .spelled))) (y .holds))
 
 one-end : (u : List Letter) → Only (DeepAt u)
 one-end u p q a b = omega (arith, below a b, below b a)

@@ -1,5 +1,6 @@
 -- `unitary::check` meets its contract: the tests stand in document 01's order, and each way out is a lemma of `Checked`.
-use Rattle.unitary.specs.Checked.{refused-low, refused-high, cast-inside, few-inside, refused-z, refused-w, small-inside, refused-sums, all-passed}
+use Rattle.unitary.specs.Checked.{refused-low, refused-high, cast-inside, few-inside, refused-z, refused-w, small-inside}
+use Rattle.unitary.specs.Checked.{refused-sums, all-passed}
 use borrow.Author.Needs.{needs}
 use Rattle.unitary.proofs.check.Statement.{statement}
 use Rattle.unitary.proofs.check.Tie as tie
@@ -28,8 +29,10 @@ cast-is-unitary c = let d = c .before .before .before in cast-inside (d .before 
 is-unitary-requires : tie.Need-is-unitary-requires
 is-unitary-requires c κs =
     let d = c .before .before .before in
-    let k = d .before .before .before .args .k in
-    (few-inside k (search needs) (search needs) (search needs), small-inside (d .within-limits .ensures) (search needs) (c .before .within-limits2 .ensures) (search needs))
+    let k = d .before .before .before .args .k in (
+      few-inside k (search needs) (search needs) (search needs),
+      small-inside (d .within-limits .ensures) (search needs) (c .before .within-limits2 .ensures) (search needs),
+    )
 
 returns-5 : tie.Need-returns-5
 returns-5 c = search (needs, refused-sums)

@@ -1,4 +1,5 @@
--- `unitary::from_gates` meets its contract. The invariant: the ending from i on has been read, and it and those after it are shallow; the measure is i.
+-- `unitary::from_gates` meets its contract. The invariant: the ending from i on has been read, and it and those after it are shallow; the
+-- measure is i.
 use Prim.Native.Nat.{_≤_}
 use native.Mathlib.Omega.{arith}
 use lib.ListN.{length}

@@ -16,7 +16,15 @@ squares-requires-2 c κs = search needs
 sub-if1 : tie.Need-sub-if1
 sub-if1 c =
     let s = c .before .before .before in
-    squares-need (s .args .k) (s .args .z) (s .args .w) (s .pre .0) (s .pre .1) _ _ _ (c .before .before .power-of-two .ensures) (c .before .squares .ensures) (c .squares2 .ensures)
+    squares-need
+    (s .args .k)
+    (s .args .z)
+    (s .args .w)
+    (s .pre .0)
+    (s .pre .1) _ _ _
+    (c .before .before .power-of-two .ensures)
+    (c .before .squares .ensures)
+    (c .squares2 .ensures)
 
 returns : tie.Need-returns
 returns c = refutes (search (needs, squares-differ))
@@ -38,7 +46,16 @@ returns-2 c =
     let d = c .before .before .before in
     let s = d .before .before .before in
     crosses-decide (s .args .k) (s .args .z) (s .args .w) (s .pre .0) (s .pre .1) _ _ (c .before .crosses .ensures) (c .crosses2 .ensures)
-    (squares-agree (s .args .k) (s .args .z) (s .args .w) (s .pre .0) (s .pre .1) _ _ _ (d .before .before .power-of-two .ensures) (d .before .squares .ensures) (d .squares2 .ensures) (c .before .before .if1 .left))
+    (squares-agree
+    (s .args .k)
+    (s .args .z)
+    (s .args .w)
+    (s .pre .0)
+    (s .pre .1) _ _ _
+    (d .before .before .power-of-two .ensures)
+    (d .before .squares .ensures)
+    (d .squares2 .ensures)
+    (c .before .before .if1 .left))
 
 pub is-unitary-spec : {M : Type 1} → statement M
 is-unitary-spec =

@@ -43,7 +43,8 @@ returns-4 c =
     let x = first .before .before .before .before .before .args .x in
     let known = first .before .struct-told4 .given in
     last-decides x (known .1 .1 .1 .0 .1) (c .within-limit4 .ensures) (met (x .a) (known .0 .1) (first .within-limit .ensures) (search needs))
-    (met (x .b) (known .1 .0 .1) (second .within-limit2 .ensures) (search needs)) (met (x .c) (known .1 .1 .0 .1) (third .within-limit3 .ensures) (search needs))
+    (met (x .b) (known .1 .0 .1) (second .within-limit2 .ensures) (search needs))
+    (met (x .c) (known .1 .1 .0 .1) (third .within-limit3 .ensures) (search needs))
 
 pub within-limits-spec : {M : Type 1} → statement M
 within-limits-spec =

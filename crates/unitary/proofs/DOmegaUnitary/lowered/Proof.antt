@@ -19,7 +19,11 @@ sub-t8 c = search needs
 returns : tie.Need-returns
 returns c =
     let z = c .before .mul-by-inv-sqrt2 .ensures in
-    record { before = c .before .before .before .before .args .self .k - 1; is = omega arith; holds = by-parts refl refl z (c .mul-by-inv-sqrt22 .ensures) }
+    record {
+      before = c .before .before .before .before .args .self .k - 1;
+      is = omega arith;
+      holds = by-parts refl refl z (c .mul-by-inv-sqrt22 .ensures);
+    }
 
 pub lowered-spec : {M : Type 1} → statement M
 lowered-spec =

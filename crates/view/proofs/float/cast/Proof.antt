@@ -11,7 +11,8 @@ use Rattle.view.proofs.float.cast.Tie as tie
 
 int-to-float-result : tie.Need-int-to-float-result
 int-to-float-result c =
-    subst (λ (z : ℤ). T (inFloat binary64 z)) (sym (toZ-ofZ w64 (c .before .args .a) (c .before .fits .a))) (in-float (c .before .args .a) (c .before .pre))
+    subst (λ (z : ℤ). T (inFloat binary64 z)) (sym (toZ-ofZ w64 (c .before .args .a) (c .before .fits .a)))
+    (in-float (c .before .args .a) (c .before .pre))
 
 returns : tie.Need-returns
 returns c = ap (ofInt binary64) (toZ-ofZ w64 (c .before .args .a) (c .before .fits .a))

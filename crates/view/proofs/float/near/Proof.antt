@@ -27,7 +27,14 @@ returns c =
     let d = c .before .before .before in
     let a = d .args .a in
     let b = d .args .b in
-    shows-of (c .before .before .cast .result) (c .before .cast2 .result) (c .power .result) (record { A = a; B = b; s = d .args .s }) (d .pre .0) (d .pre .1) (d .pre .2)
+    shows-of
+    (c .before .before .cast .result)
+    (c .before .cast2 .result)
+    (c .power .result)
+    (record { A = a; B = b; s = d .args .s })
+    (d .pre .0)
+    (d .pre .1)
+    (d .pre .2)
     (c .before .before .cast .ensures ∙ ap (ofInt binary64) (toZ-ofZ w64 a (d .fits .a)))
     (c .before .cast2 .ensures ∙ ap (ofInt binary64) (toZ-ofZ w64 b (d .fits .b)))
     (c .power .ensures)

@@ -39,7 +39,9 @@ sub-requires c κs =
         sized =
             sized-le (lit≤ tt)
             (coefficients u
-            (small-power y u (2 ^ 60) (small-conj (quad (d .args .w)) y (2 ^ 60) (at-most-60 (d .pre .0) (w-size (d .pre .1))) (c .before .conj2 .ensures)) (d .args .n) (c .mul-by-omega-power2 .ensures)));
+            (small-power y u (2 ^ 60)
+            (small-conj (quad (d .args .w)) y (2 ^ 60) (at-most-60 (d .pre .0) (w-size (d .pre .1))) (c .before .conj2 .ensures))
+            (d .args .n) (c .mul-by-omega-power2 .ensures)));
       },
     )
 
@@ -57,7 +59,8 @@ parts-requires-2 c κs =
     let u = quad (b .before .mul-by-omega-power2 .result) in (
       d .pre .0,
       small-neg u (quad (b .sub .result)) m
-          (small-power y u m (small-conj (quad (d .args .w)) y m (w-size (d .pre .1)) (b .before .before .conj2 .ensures)) (d .args .n) (b .before .mul-by-omega-power2 .ensures))
+          (small-power y u m (small-conj (quad (d .args .w)) y m (w-size (d .pre .1)) (b .before .before .conj2 .ensures)) (d .args .n)
+          (b .before .mul-by-omega-power2 .ensures))
           (b .sub .ensures ∙ omegas-laws .zero-add (negQ ints u)),
     )
 
@@ -75,7 +78,8 @@ parts-requires-4 c κs =
     let m = 2 ^ d .args .k in
     let y = quad (b .before .conj .result) in (
       d .pre .0,
-      small-power y (quad (b .mul-by-omega-power .result)) m (small-conj (quad (d .args .z)) y m (z-size (d .pre .1)) (b .before .conj .ensures)) (d .args .n) (b .mul-by-omega-power .ensures),
+      small-power y (quad (b .mul-by-omega-power .result)) m
+          (small-conj (quad (d .args .z)) y m (z-size (d .pre .1)) (b .before .conj .ensures)) (d .args .n) (b .mul-by-omega-power .ensures),
     )
 
 returns : tie.Need-returns
@@ -92,10 +96,14 @@ returns c =
       p = p .parts .ensures;
       q =
           subst (λ x. Entry k x (r .re) (r .im))
-          (b .sub .ensures ∙ omegas-laws .zero-add (negQ ints (quad (b .before .mul-by-omega-power2 .result))) ∙ ap (negQ ints) (b .before .mul-by-omega-power2 .ensures ∙ ap (λ y. mulQ ints y u) (b .before .before .conj2 .ensures)))
+          (b .sub .ensures
+          ∙ omegas-laws .zero-add (negQ ints (quad (b .before .mul-by-omega-power2 .result)))
+          ∙ ap (negQ ints) (b .before .mul-by-omega-power2 .ensures ∙ ap (λ y. mulQ ints y u) (b .before .before .conj2 .ensures)))
           (c .before .before .parts2 .ensures);
       r = c .before .parts3 .ensures;
-      s = subst (λ x. Entry k x (s .re) (s .im)) (a .mul-by-omega-power .ensures ∙ ap (λ y. mulQ ints y u) (a .before .conj .ensures)) (c .parts4 .ensures);
+      s =
+          subst (λ x. Entry k x (s .re) (s .im)) (a .mul-by-omega-power .ensures ∙ ap (λ y. mulQ ints y u) (a .before .conj .ensures))
+          (c .parts4 .ensures);
     }
 
 pub entries-spec : {M : Type 1} → statement M

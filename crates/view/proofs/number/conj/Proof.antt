@@ -12,13 +12,19 @@ use Rattle.view.proofs.number.conj.Statement.{statement}
 use Rattle.view.proofs.number.conj.Tie as tie
 
 sub-t6 : tie.Need-sub-t6
-sub-t6 c = let d = c .before .before .before .before in need₁ (2 ^ 30) (d .args .x) (coefficients (quad (d .args .x)) (d .pre)) (lit (pos 0) ∸ arg 2) tt
+sub-t6 c =
+    let d = c .before .before .before .before in
+    need₁ (2 ^ 30) (d .args .x) (coefficients (quad (d .args .x)) (d .pre)) (lit (pos 0) ∸ arg 2) tt
 
 sub-t7 : tie.Need-sub-t7
-sub-t7 c = let d = c .before .before .before .before in need₁ (2 ^ 30) (d .args .x) (coefficients (quad (d .args .x)) (d .pre)) (lit (pos 0) ∸ arg 1) tt
+sub-t7 c =
+    let d = c .before .before .before .before in
+    need₁ (2 ^ 30) (d .args .x) (coefficients (quad (d .args .x)) (d .pre)) (lit (pos 0) ∸ arg 1) tt
 
 sub-t8 : tie.Need-sub-t8
-sub-t8 c = let d = c .before .before .before .before in need₁ (2 ^ 30) (d .args .x) (coefficients (quad (d .args .x)) (d .pre)) (lit (pos 0) ∸ arg 0) tt
+sub-t8 c =
+    let d = c .before .before .before .before in
+    need₁ (2 ^ 30) (d .args .x) (coefficients (quad (d .args .x)) (d .pre)) (lit (pos 0) ∸ arg 0) tt
 
 returns : tie.Need-returns
 returns c =

@@ -23,7 +23,11 @@ mul-by-omega-requires : tie.Need-mul-by-omega-requires Inv-loop μ-loop
 mul-by-omega-requires c κs =
     let l = c .before .loop in
     let d = c .before .before in
-    record { sized = sized-le (omega arith) (coefficients (quad (l .y)) (small-power (quad (d .args .x)) (quad (l .y)) (2 ^ 60) (d .pre) (l .i) (l .inv .1))) }
+    record {
+      sized =
+          sized-le (omega arith)
+          (coefficients (quad (l .y)) (small-power (quad (d .args .x)) (quad (l .y)) (2 ^ 60) (d .pre) (l .i) (l .inv .1)));
+    }
 
 add-i : tie.Need-add-i Inv-loop μ-loop
 add-i c = omega arith
@@ -33,8 +37,16 @@ loop-less c = omega arith
 
 loop-again : tie.Need-loop-again Inv-loop μ-loop
 loop-again c =
-    let l = c .before .before .loop in
-    (omega arith, one-more (quad (c .before .before .before .args .x)) (quad (l .y)) (quad (c .mul-by-omega .result)) (l .i) (l .inv .1) (c .mul-by-omega .ensures))
+    let l = c .before .before .loop in (
+      omega arith,
+      one-more
+          (quad (c .before .before .before .args .x))
+          (quad (l .y))
+          (quad (c .mul-by-omega .result))
+          (l .i)
+          (l .inv .1)
+          (c .mul-by-omega .ensures),
+    )
 
 returns : tie.Need-returns Inv-loop μ-loop
 returns c =

@@ -34,7 +34,9 @@ over-requires c κs =
     subst Fit (sym (real-handed (d .args .k) (d .args .x) (d .pre))) (real-fit (d .args .k) (quad (d .args .x)) (d .pre .0) (d .pre .1))
 
 add-over : tie.Need-add-over
-add-over c = let d = c .before .before .before .before .before in need₁ (2 ^ 30) (d .args .x) (small (d .args .k) (d .args .x) (d .pre)) (arg 2 ∔ arg 0) tt
+add-over c =
+    let d = c .before .before .before .before .before in
+    need₁ (2 ^ 30) (d .args .x) (small (d .args .k) (d .args .x) (d .pre)) (arg 2 ∔ arg 0) tt
 
 over-requires-2 : tie.Need-over-requires-2
 over-requires-2 c κs =
