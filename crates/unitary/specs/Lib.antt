@@ -8,3 +8,4 @@ pub mod Letters
 pub mod Reading
 pub mod Unique
 pub mod Useless
+pub mod Skipped

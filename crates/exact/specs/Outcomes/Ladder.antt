@@ -43,6 +43,14 @@ module _ {R : Type 0} (refused : ℕ → ℕ → R) (Answer : R → Type 0) wher
   answered (f then fs) h r (Rung.given p k e) = absurd (h .0 p k)
   answered (f then fs) h r (Rung.passed n x) = answered fs (h .1) r x
 
+  -- where one holds and those before it don't, it is given, at its place, and nothing else is
+  module _ (f : Refusal) (one : (p q : ℕ) → f .At p → f .At q → p ≡ q) (p : ℕ) (h : f .At p) where
+    pub only-refused : (fs gs : Refusals) → Passed fs → (r : R) → Outcome refused Answer (fs also (f then gs)) r → r ≡ refused (f .number) p
+    only-refused none gs n r (Rung.given q k e) = e ∙ ap (refused (f .number)) (one q p k h)
+    only-refused none gs n r (Rung.passed m x) = absurd (m p h)
+    only-refused (g then fs) gs n r (Rung.given q k e) = absurd (n .0 q k)
+    only-refused (g then fs) gs n r (Rung.passed m x) = only-refused fs gs (n .1) r x
+
   -- and what comes behind refusals that are passed stands alone
   pub skip : (fs gs : Refusals) → Passed fs → (r : R) → Outcome refused Answer (fs also gs) r → Outcome refused Answer gs r
   skip none gs h r x = x
