@@ -2,4 +2,5 @@
 pub mod Ladder
 pub mod Places
 pub mod Checked
+pub mod Endings
 pub mod Lent
