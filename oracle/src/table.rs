@@ -1,4 +1,4 @@
-//! Works out the table of crates/normal_form/src/steps.rt from exact arithmetic of the harness's own, and prints it line
+//! Works out the table of crates/normal_form/src/table.rt from exact arithmetic of the harness's own, and prints it line
 //! for line as it stands there.
 
 #[allow(dead_code)]

@@ -1,38 +1,36 @@
 -- What is written for a reading is the answer to the letters read. Assumes nothing.
-use mathlib.Core.Path.{_≡_, refl, sym, _∙_, ap, ap₂, subst}
+use mathlib.Core.Path.{_≡_, sym, _∙_, ap, ap₂, subst}
 use mathlib.Core.Bool.{Bool, true, false}
-use mathlib.Core.List.{List, [], _∷_, _++_, append-assoc, append-nil}
-use Prim.Native.Nat.{ℕ, suc, _+_, _-_, _<_, _≤_}
+use mathlib.Core.List.{List, _++_}
+use Prim.Native.Nat.{ℕ, _+_, _<_, _≤_}
 use native.Mathlib.Nat.{zero-add}
-use native.Mathlib.Numerals.{add-one}
 use native.Mathlib.Omega.{arith}
 use mir.Syntax.{w64}
 use mir.Val.{Fits}
-use lib.ListN.{length, take, drop, getD, length-append}
-use lib.Seq.{take-suc, take-add, take-length}
-use Rattle.exact.specs.Meaning.Word.{Letter, byte, bytes, tees, Spelled}
+use lib.ListN.{length, take, drop, length-append}
+use lib.Seq.{take-length}
+use Rattle.exact.specs.Meaning.Word.{Letter, bytes, tees, Spelled}
 use Rattle.exact.specs.Meaning.Normal as normal
 use Rattle.exact.specs.Meaning.Limits.{Accepted, Letter as LETTER, Room}
 use Rattle.exact.specs.Meaning.Lent.{over}
 use Rattle.exact.specs.Cases.Letters.{lettersOf, bytes-length}
 use Rattle.exact.specs.Unique.Tails.{tees-append}
 use Rattle.exact.specs.Outcomes.Ladder.{Only}
-use Rattle.normal_form.specs.declared.reading.Read.{Read}
-use Rattle.normal_form.specs.declared.reading.Read.the-variants as Read
-use Rattle.normal_form.specs.declared.Written.{Written}
-use Rattle.normal_form.specs.declared.reading.Reading.{Reading}
-use Rattle.normal_form.specs.declared.reading.Syllable.{Syllable}
-use Rattle.normal_form.specs.declared.writing.Ending.{Ending}
 use Rattle.clifford.specs.Cliffords.{splitC}
-use Rattle.normal_form.specs.Readings.{State, syllable, prefix, prefix-tees, start, run, shape, spelled, normal, normal-of}
-use Rattle.normal_form.specs.Held.{codes, Holds, Readable, count-is, count-few, bytes-most}
-use Rattle.normal_form.specs.Steps.{tailOf}
-use Rattle.normal_form.specs.Syllables.{syllableNumber, syllableWord, syllableOf, named}
+use Rattle.reading.specs.declared.Read.{Read}
+use Rattle.reading.specs.declared.Read.the-variants as Read
+use Rattle.reading.specs.declared.Reading.{Reading}
+use Rattle.reading.specs.Readings.{State, prefix, prefix-tees, start, run, shape, spelled, normal, normal-of}
+use Rattle.reading.specs.Held.{Holds, Readable, count-is, count-few, bytes-most}
+use Rattle.reading.specs.Steps.{tailOf}
+use Rattle.reading.specs.Letters.{Inside, Reads, bytes-back, none-outside}
+use Rattle.writing.specs.declared.Ending.{Ending}
+use Rattle.writing.specs.Put.{Put, put-more}
+use Rattle.writing.specs.Endings.{endWord, endSize, endingOf, Ended, end-length, end-tees, end-whole, textOf, text-less}
+use Rattle.writing.specs.Codes.{codesWord, held-word, bytes-append}
+use Rattle.normal_form.specs.declared.Written.{Written}
 use Rattle.normal_form.specs.Outcome.{Normalises, Shortens, normalises-single, shortens-single, refused, counts}
 use Rattle.normal_form.specs.Outcome.{WordOutcome, RoomOutcome, outside-at, no-room, written-whole, answered-with}
-use Rattle.normal_form.specs.Letters.{Inside, Reads, bytes-back, none-outside}
-use Rattle.normal_form.specs.Put.{Put, put-more, put-length}
-use Rattle.normal_form.specs.Endings.{endWord, endSize, endingOf, Ended, end-length, end-tees, end-whole, textOf, text-less}
 
 -- ---- the answers of job 3, with the final W letters, and of job 5, without
 abbrev pub Answers : Bool → List Letter → List Letter → Type 0
@@ -63,59 +61,6 @@ answers-single false = shortens-single
 -- of a word's bytes that are all letters
 spelled-answer : (phase : Bool) (w : List ℕ) → Inside w (length w) → Spelled (Answers phase) w (textOf phase (run start (lettersOf w)))
 spelled-answer phase w f = record { letters = lettersOf w; spelled = bytes-back w f; holds = answers phase (lettersOf w) }
-
--- ---- the letters of codes
-abbrev pub codesWord : List ℕ → List Letter
-codesWord [] = []
-codesWord (c ∷ cs) = syllableWord (syllableOf c) ++ codesWord cs
-
-codesWord-append : (cs ds : List ℕ) → codesWord (cs ++ ds) ≡ codesWord cs ++ codesWord ds
-codesWord-append [] ds = refl
-codesWord-append (c ∷ cs) ds =
-    ap (λ u. syllableWord (syllableOf c) ++ u) (codesWord-append cs ds)
-    ∙ sym (append-assoc (syllableWord (syllableOf c)) (codesWord cs) (codesWord ds))
-
-one-code : (s : normal.Syllable) → codesWord (syllableNumber (named s) ∷ []) ≡ syllable s
-one-code normal.HT = refl
-one-code normal.SHT = refl
-
-codes-word : (b : Bool) (ss : List normal.Syllable) → codesWord (codes b ss) ≡ prefix b ss
-codes-word true [] = refl
-codes-word false [] = refl
-codes-word true (s ∷ ss) =
-    codesWord-append (codes true ss) (syllableNumber (named s) ∷ []) ∙ ap₂ (λ u v. u ++ v) (codes-word true ss) (one-code s)
-codes-word false (s ∷ ss) =
-    codesWord-append (codes false ss) (syllableNumber (named s) ∷ []) ∙ ap₂ (λ u v. u ++ v) (codes-word false ss) (one-code s)
-
-pub held-word : {items : List ℕ} {r : Reading} {st : State} → Holds items r st
-    → codesWord (take (r .count) items) ≡ prefix (st .lead) (st .stack)
-held-word {items} {r} {st} h = ap codesWord (h .array .front) ∙ codes-word (st .lead) (st .stack)
-
--- the letters of the code at a place, one code more, and still no more than all
-abbrev pub codeWord : List ℕ → ℕ → List Letter
-codeWord items k = syllableWord (syllableOf (getD items k 0))
-
-pub codes-more : (items : List ℕ) (k : ℕ) → k < length items → codesWord (take (k + 1) items) ≡ codesWord (take k items) ++ codeWord items k
-codes-more items k h =
-    ap codesWord (ap (λ n. take n items) (add-one k) ∙ take-suc items k 0 h)
-    ∙ codesWord-append (take k items) (getD items k 0 ∷ [])
-    ∙ ap (λ u. codesWord (take k items) ++ u) (append-nil (codeWord items k))
-
-codes-part : (items : List ℕ) (k n : ℕ) → k ≤ n → length (codesWord (take k items)) ≤ length (codesWord (take n items))
-codes-part items k n l =
-    let sum : k + (n - k) ≡ n = omega arith in
-    rw (← sum) (simp (take-add, codesWord-append, length-append) (omega arith))
-
-pub codes-room : (items : List ℕ) (k n : ℕ) → k < n → k < length items
-    → length (codesWord (take k items)) + length (codeWord items k) ≤ length (codesWord (take n items))
-codes-room items k n l h =
-    let one = ap length (codes-more items k h) ∙ length-append (codesWord (take k items)) (codeWord items k) in
-    omega (arith, codes-part items (k + 1) n (omega arith))
-
--- ---- bytes
-pub bytes-append : (u v : List Letter) → bytes (u ++ v) ≡ bytes u ++ bytes v
-bytes-append [] v = refl
-bytes-append (l ∷ u) v = ap (λ x. byte l ∷ x) (bytes-append u v)
 
 -- ---- what is written for a reading: its text, if there is room for it
 pub record WritesReading (phase : Bool) (items : List ℕ) (r : Reading) (old : List ℕ) (n : Written) (new : List ℕ) : Type 0 where
@@ -186,30 +131,6 @@ module _ (items : List ℕ) (r : Reading) (n : ℕ) (old : List ℕ) (h : Readab
   pub ending-room : (e : Ending) (mid : List ℕ) (at : ℕ) → n ≡ endSize e → length mid ≡ length old → Put old 0 (heldBytes items r) mid at
       → at + endSize e ≤ length mid
   ending-room e mid at f m p = omega (arith, held-length (h .holds), p .next)
-
--- ---- the loop over the syllables
-module _ (items old : List ℕ) (k n : ℕ) (buf : List ℕ) (at : ℕ) (l : k < n) (m : n ≤ length items)
-    (e : length (codesWord (take n items)) ≤ length old) (p : Put old 0 (bytes (codesWord (take k items))) buf at) where
-  front-room : length (bytes (codesWord (take k items))) + length (codeWord items k) ≤ length old
-  front-room = omega (arith, bytes-length (codesWord (take k items)), codes-room items k n l (omega arith))
-
-  pub same-size : length buf ≡ length old
-  same-size = put-length old 0 (bytes (codesWord (take k items))) buf at p (omega (arith, front-room))
-
-  pub one-room : at + length (codeWord items k) ≤ length buf
-  one-room = omega (arith, same-size, front-room, p .next)
-
-  pub one-more : (s : Syllable) (new : List ℕ) (r : ℕ) → s ≡ syllableOf (getD items k 0) → Put buf at (bytes (syllableWord s)) new r
-      → Put old 0 (bytes (codesWord (take (k + 1) items))) new r
-  one-more s new r f q =
-      subst (λ (w : List ℕ). Put old 0 w new r) whole
-      (put-more old 0 (bytes (codesWord (take k items))) buf at p (omega (arith, front-room)) (bytes (syllableWord s)) new r q)
-    where
-      whole : bytes (codesWord (take k items)) ++ bytes (syllableWord s) ≡ bytes (codesWord (take (k + 1) items))
-      whole =
-          ap (λ (t : Syllable). bytes (codesWord (take k items)) ++ bytes (syllableWord t)) f
-          ∙ sym (bytes-append (codesWord (take k items)) (codeWord items k))
-          ∙ ap bytes (sym (codes-more items k (omega arith)))
 
 -- ---- the whole: x is what the word is read as
 module _ (w items : List ℕ) (x : Read) (l : length w ≤ 4096) (s : Reads w items x) where

@@ -24,8 +24,8 @@ use Rattle.normal_form.specs.declared.Written.{Written}
 use Rattle.normal_form.specs.Outcome.{Normalises, Shortens, normalises-single, shortens-single, refused, counts}
 use Rattle.normal_form.specs.Outcome.{wordRefusals, WordOutcome, NormaliseOutcome, PhaseFreeOutcome, RoomOutcome}
 use Rattle.normal_form.specs.Outcome.{outcome-unique, no-room, written-whole, answered-with}
-use Rattle.normal_form.specs.Readings.{start, run}
-use Rattle.normal_form.specs.Endings.{textOf}
+use Rattle.reading.specs.Readings.{start, run}
+use Rattle.writing.specs.Endings.{textOf}
 use Rattle.normal_form.specs.Answers.{answers}
 
 -- ---- two outcomes that job 3 or job 5 allows are equal

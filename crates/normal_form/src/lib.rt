@@ -2,17 +2,16 @@
 ghost use mathlib.Core.Path.{_≡_};
 ghost use Prim.Native.Nat.{_≤_};
 ghost use lib.ListN.{length};
+ghost use Rattle.reading.specs.Held.{Blank, Readable};
+ghost use Rattle.reading.specs.Steps.{Right};
 ghost use Rattle.normal_form.specs.Outcome.{refused, WordOutcome, NormaliseOutcome, PhaseFreeOutcome};
-ghost use Rattle.normal_form.specs.Held.{Blank};
-ghost use Rattle.normal_form.specs.Steps.{Right};
-ghost use Rattle.normal_form.specs.Answers.{Answers};
+ghost use Rattle.normal_form.specs.Answers.{Answers, WritesReading};
 use reading::EMPTY;
 use reading::Read;
-use steps::TABLE;
+use reading::Reading;
+use table::TABLE;
 
-pub mod reading;
-pub mod steps;
-pub mod writing;
+pub mod table;
 
 // What jobs 3 and 5 hand back: the refusal or 0, its place, the bytes written and the T letters among them.
 pub struct Written {
@@ -36,6 +35,28 @@ fn refused(number: u8, place: usize) -> Written
     }
 }
 
+// The word of a reading, if there is room for it.
+fn write(table: &[u8], items: &[u8], r: Reading, phase: bool, buf: &mut [u8]) -> Written
+    requires { ⌜ Right (now table) ⌝ ∗ ⌜ Readable (now items) r ⌝ ∗ ⌜ r .count ≤ 4096 ⌝ }
+    ensures { λ n. ⌜ WritesReading phase (now (items .entry)) r (now (buf .entry)) n (now (buf .exit)) ⌝ }
+{
+    let tail = r.tail;
+    let count = r.count;
+    let e = writing::ending_of(table, tail, phase);
+    let n = r.bytes + e.size();
+    if n > buf.len() {
+        return refused(exact::ROOM, 0);
+    }
+    let at = writing::put_syllables(buf, items, count);
+    writing::put_ending(buf, at, e);
+    Written {
+        refusal: exact::ACCEPTED,
+        place: 0,
+        bytes: n,
+        tees: count,
+    }
+}
+
 // The answer to a word, by way of an empty array with a place for each letter.
 fn read_and_write(
     table: &[u8],
@@ -49,7 +70,7 @@ fn read_and_write(
 {
     match reading::read_word(table, items, word) {
         Read::Outside(place) => refused(exact::LETTER, place),
-        Read::Word(r) => writing::write(table, items, r, phase, buf),
+        Read::Word(r) => write(table, items, r, phase, buf),
     }
 }
 

@@ -34,7 +34,7 @@ use Rattle.unitary.specs.Acts.{Good}
 use Rattle.normal_form.specs.declared.Written as Job3
 use Rattle.normal_form.specs.Outcome as Normalised
 use Rattle.normal_form.specs.Outcome.{Normalises, NormaliseOutcome}
-use Rattle.normal_form.specs.Put.{Put}
+use Rattle.writing.specs.Put.{Put}
 use Rattle.synthesis_of_clifford_t.specs.declared.Synthesis.{Synthesis}
 use Rattle.synthesis_of_clifford_t.specs.Step.{Ready}
 use Rattle.synthesis_of_clifford_t.specs.Steps.{letters, letters-same}

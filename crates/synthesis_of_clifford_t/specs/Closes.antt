@@ -25,9 +25,9 @@ use Rattle.ring.specs.Code.{gives₁}
 use Rattle.unitary.specs.declared.DOmegaUnitary.{DOmegaUnitary}
 use Rattle.unitary.specs.Triples.{triple}
 use Rattle.unitary.specs.Acts.{Good, good-z, good-w}
-use Rattle.normal_form.specs.Put.{Put, put-more, put-length}
-use Rattle.normal_form.specs.Endings.{endWord, endSize}
-use Rattle.normal_form.specs.Answers.{bytes-append}
+use Rattle.writing.specs.Put.{Put, put-more, put-length}
+use Rattle.writing.specs.Endings.{endWord, endSize}
+use Rattle.writing.specs.Codes.{bytes-append}
 use Rattle.synthesis_of_clifford_t.specs.declared.Closing as declared
 use Rattle.synthesis_of_clifford_t.specs.Residues.{back}
 use Rattle.synthesis_of_clifford_t.specs.Closing.{isZero, swaps, phase, closing, phase-few}

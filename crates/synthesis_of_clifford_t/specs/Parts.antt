@@ -17,9 +17,9 @@ use Rattle.exact.specs.Meaning.Limits.{deepest}
 use Rattle.unitary.specs.declared.DOmegaUnitary.{DOmegaUnitary}
 use Rattle.unitary.specs.Triples.{triple}
 use Rattle.unitary.specs.Acts.{Good}
-use Rattle.normal_form.specs.Put.{Put, put-none, put-length, put-more}
+use Rattle.writing.specs.Put.{Put, put-none, put-length, put-more}
 use Rattle.exact.specs.Cases.Letters.{bytes-length}
-use Rattle.normal_form.specs.Answers.{bytes-append}
+use Rattle.writing.specs.Codes.{bytes-append}
 use Rattle.synthesis_of_clifford_t.specs.declared.Reduction as declared
 use Rattle.synthesis_of_clifford_t.specs.declared.Reduction.the-variants as variants
 use Rattle.synthesis_of_clifford_t.specs.Step.{Stepped, reduction, block, power, power-few, next}

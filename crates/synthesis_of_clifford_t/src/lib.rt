@@ -8,7 +8,7 @@ ghost use Rattle.exact.specs.Algebra.OmegaPower.{which};
 ghost use Rattle.ring.specs.Number.{quad, Small};
 ghost use Rattle.unitary.specs.Triples.{triple};
 ghost use Rattle.unitary.specs.Acts.{Good};
-ghost use Rattle.normal_form.specs.Put.{Put};
+ghost use Rattle.writing.specs.Put.{Put};
 ghost use Rattle.synthesis_of_clifford_t.specs.Residues.{bitShift, bitCount, powerBy, fallsBy};
 ghost use Rattle.synthesis_of_clifford_t.specs.Step.{block, reduction};
 ghost use Rattle.synthesis_of_clifford_t.specs.Closing.{closing};
@@ -17,7 +17,7 @@ ghost use Rattle.synthesis_of_clifford_t.specs.Outcome.{SynthesiseOutcom
 ghost use Rattle.synthesis_of_clifford_t.specs.Code.{answerOf};
 ghost use Rattle.synthesis_of_clifford_t.specs.Closes.{signOf, closingBy, Closes};
 ghost use Rattle.synthesis_of_clifford_t.specs.Answer.{AnsweredBy};
-use normal_form::writing::Ending;
+use writing::Ending;
 use ring::ZOmega;
 use unitary::DOmegaUnitary;
 
@@ -100,9 +100,9 @@ fn write_block(rest: &mut [u8], m: u8) -> usize
     requires { ⌜ m < 4 ⌝ ∗ ⌜ length (block m) ≤ length (now rest) ⌝ }
     ensures { λ r. ⌜ Put (now (rest .entry)) 0 (bytes (block m)) (now (rest .exit)) r ⌝ }
 {
-    let a = normal_form::writing::put_times(rest, 0, b'T', (m % 2) as usize);
-    let b = normal_form::writing::put_times(rest, a, b'S', (m / 2) as usize);
-    normal_form::writing::put_letter(rest, b, b'H')
+    let a = writing::put_times(rest, 0, b'T', (m % 2) as usize);
+    let b = writing::put_times(rest, a, b'S', (m / 2) as usize);
+    writing::put_letter(rest, b, b'H')
 }
 
 // ---- the end
@@ -186,8 +186,8 @@ fn write_closing(rest: &mut [u8], t: DOmegaUnitary) -> usize
     let c = closing_of(t);
     let tees = c.tees;
     let tail = c.tail;
-    let a = normal_form::writing::put_times(rest, 0, b'T', tees);
-    normal_form::writing::put_ending(rest, a, tail)
+    let a = writing::put_times(rest, 0, b'T', tees);
+    writing::put_ending(rest, a, tail)
 }
 
 // ---- job 4

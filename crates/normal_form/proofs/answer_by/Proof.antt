@@ -1,6 +1,6 @@
 -- `normal_form::answer_by` meets its contract. Assumes nothing.
 use borrow.Author.Needs.{needs}
-use Rattle.normal_form.specs.Held.{blank}
+use Rattle.reading.specs.Held.{blank}
 use Rattle.normal_form.proofs.answer_by.Statement.{statement}
 use Rattle.normal_form.proofs.answer_by.Tie as tie
 

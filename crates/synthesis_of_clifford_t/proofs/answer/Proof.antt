@@ -5,7 +5,7 @@ use lib.ListN.{replicate}
 use denote.Ref.{now}
 use Rattle.exact.specs.Meaning.Word.{Letter, bytes}
 use Rattle.unitary.specs.Triples.{triple}
-use Rattle.normal_form.specs.Put.{Put}
+use Rattle.writing.specs.Put.{Put}
 use Rattle.synthesis_of_clifford_t.specs.Steps.{letters}
 use Rattle.synthesis_of_clifford_t.specs.Code.{good-ready}
 use Rattle.synthesis_of_clifford_t.specs.Answer.{word-is, len-inside, word-long, normalised}

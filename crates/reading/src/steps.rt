@@ -1,0 +1,120 @@
+// What two letters do to a reading, by look-up: the kind of change to the syllables, and the Clifford behind them.
+ghost use mathlib.Core.Path.{_≡_};
+ghost use Prim.Native.Nat.{_<_};
+ghost use Rattle.exact.specs.Cases.Letters.{letterOf};
+ghost use Rattle.clifford.specs.Cliffords.{splitC};
+ghost use Rattle.reading.specs.Steps.{letterNumber, letterAt, Right, Fits, moved, Stepped, Gained, axisAt, tailOf};
+use clifford::Axis;
+use clifford::Clifford;
+use clifford::Coset;
+
+// The Clifford (a,b,c,d) by its code 8a + 4b + c and its phase d.
+pub struct Tail {
+    pub code: u8,
+    pub phase: u8,
+}
+
+// The kind is 0 where the syllables stay, 1 where a T meets the last of them, 2 where HT is added and 3 where SHT is.
+pub struct Step {
+    pub kind: u8,
+    pub tail: Tail,
+}
+
+// H, S, X, W and T are 0 to 4 in the table, and 5 is any other byte, or no letter.
+pub const NOTHING: u8 = 5;
+
+// Where the parts of the table begin, behind its rows.
+const KINDS: usize = 408;
+
+const SYLLABLES: usize = 480;
+
+const AXES: usize = 576;
+
+const PAIRS: usize = 600;
+
+const CHANGES: usize = 636;
+
+const LETTERS: usize = 672;
+
+pub fn number(table: &[u8], b: u8) -> u8
+    requires { ⌜ Right (now table) ⌝ }
+    ensures { λ r. ⌜ r ≡ letterNumber (letterOf b) ⌝ }
+{
+    if b < 72 {
+        return NOTHING;
+    }
+    if b > 88 {
+        return NOTHING;
+    }
+    table[LETTERS + (b - 72) as usize]
+}
+
+fn axis_at(a: u8) -> Axis
+    ensures { λ r. ⌜ r ≡ axisAt a ⌝ }
+{
+    match a {
+        0 => Axis::I,
+        1 => Axis::H,
+        _ => Axis::SH,
+    }
+}
+
+impl Tail {
+    // As an entry of the table has it, and a phase more.
+    fn moved(self, entry: u8, more: u8) -> Tail
+        requires { ⌜ Fits self ⌝ ∗ ⌜ more < 8 ⌝ }
+        ensures { λ r. ⌜ r ≡ moved self entry more ⌝ }
+    {
+        Tail {
+            code: entry % 32,
+            phase: (self.phase + entry / 32 + more) % 8,
+        }
+    }
+
+    // After two letters, by their numbers.
+    pub fn step(self, table: &[u8], first: u8, second: u8) -> Step
+        requires { ⌜ Right (now table) ⌝ ∗ ⌜ Fits self ⌝ ∗ ⌜ (first < 6) × (second < 6) ⌝ }
+        ensures { λ r. ⌜ Stepped (letterAt first) (letterAt second) self r ⌝ }
+    {
+        let pair = first as usize * 6 + second as usize;
+        let row = table[PAIRS + pair];
+        let change = table[CHANGES + pair];
+        let kind = table[KINDS + change as usize * 24 + self.code as usize];
+        let entry = table[(row % 32) as usize * 24 + self.code as usize];
+        let tail = self.moved(entry, row / 32);
+        Step {
+            kind: kind,
+            tail: tail,
+        }
+    }
+
+    // Behind the syllable of this code and one more T.
+    pub fn behind(self, table: &[u8], syllable: u8) -> Tail
+        requires { ⌜ Right (now table) ⌝ ∗ ⌜ Fits self ⌝ ∗ ⌜ syllable < 4 ⌝ }
+        ensures { λ r. ⌜ Gained syllable self r ⌝ }
+    {
+        let entry = table[SYLLABLES + syllable as usize * 24 + self.code as usize];
+        self.moved(entry, 0)
+    }
+
+    // Its axis, and the Clifford behind it.
+    pub fn split(self, table: &[u8]) -> Coset
+        requires { ⌜ Right (now table) ⌝ ∗ ⌜ Fits self ⌝ }
+        ensures { λ r. ⌜ r ≡ splitC (tailOf self) ⌝ }
+    {
+        let entry = table[AXES + self.code as usize];
+        let rest = self.moved(entry, 0);
+        let code = rest.code;
+        let axis = axis_at(self.code / 8);
+        let behind = Clifford {
+            a: code / 8,
+            b: code / 4 % 2,
+            c: code % 4,
+            d: rest.phase,
+        };
+        Coset {
+            axis: axis,
+            rest: behind,
+        }
+    }
+}

@@ -1,0 +1,316 @@
+-- The letters of a tail, counted one letter after the other, with its final W letters or without. Assumes nothing.
+use mathlib.Core.Path.{_≡_, refl, sym, _∙_, ap, subst}
+use mathlib.Core.Bool.{Bool, true, false, cond}
+use mathlib.Core.List.{List, [], _∷_, _++_, append-assoc, append-nil}
+use Prim.Native.Nat.{ℕ, zero, suc, _+_, _-_, _≤_, _<_}
+use native.Mathlib.Nat.{zero-add, suc-add}
+use native.Mathlib.Omega.{arith}
+use lib.Dec.{eqb, ltb}
+use lib.ListN.{length, length-append, getD}
+use borrow.Author.Tests.{eqb-true, eqb-false, ne-eqb, ltb-true, ltb-false, lt-ltb, le-ltb}
+use Rattle.exact.specs.Meaning.Word.{Letter, I, H, S, X, W, byte, bytes, tees}
+use Rattle.exact.specs.Meaning.Normal.{times, tailWord, orI, kept, lessFinalW, HT, SHT, Syllable}
+use Rattle.exact.specs.Unique.Tails.{tees-append}
+use Rattle.clifford.specs.declared.Axis.{Axis}
+use Rattle.clifford.specs.declared.Axis.the-variants as Axis
+use Rattle.clifford.specs.declared.Clifford.{Clifford}
+use Rattle.clifford.specs.declared.Coset.{Coset}
+use Rattle.writing.specs.declared.Ending.{Ending}
+use Rattle.clifford.specs.Job6.{Ranged}
+use Rattle.clifford.specs.Cliffords.{splitC, split-right}
+use Rattle.reading.specs.Readings.{State, prefix, tailAt}
+
+abbrev pub essesOf : Axis → ℕ
+essesOf Axis.I = 0
+essesOf Axis.H = 0
+essesOf Axis.SH = 1
+
+abbrev pub aitchesOf : Axis → ℕ
+aitchesOf Axis.I = 0
+aitchesOf Axis.H = 1
+aitchesOf Axis.SH = 1
+
+-- the letters from each run on
+abbrev fromS : Ending → List Letter
+fromS e = times (e .s) S ++ times (e .w) W
+
+abbrev fromX : Ending → List Letter
+fromX e = times (e .x) X ++ fromS e
+
+abbrev fromI : Ending → List Letter
+fromI e = times (e .i) I ++ fromX e
+
+abbrev fromH : Ending → List Letter
+fromH e = times (e .h) H ++ fromI e
+
+abbrev pub endWord : Ending → List Letter
+endWord e = times (e .first) S ++ fromH e
+
+abbrev pub endSize : Ending → ℕ
+endSize e = e .first + e .h + e .i + e .x + e .s + e .w
+
+-- ---- the letter at a place
+-- where each run ends
+abbrev toH : Ending → ℕ
+toH e = e .first + e .h
+
+abbrev toI : Ending → ℕ
+toI e = toH e + e .i
+
+abbrev toX : Ending → ℕ
+toX e = toI e + e .x
+
+abbrev toS : Ending → ℕ
+toS e = toX e + e .s
+
+-- and the letter there
+abbrev atS : Ending → ℕ → ℕ
+atS e j = cond (ltb j (toS e)) 83 87
+
+abbrev atX : Ending → ℕ → ℕ
+atX e j = cond (ltb j (toX e)) 88 (atS e j)
+
+abbrev atI : Ending → ℕ → ℕ
+atI e j = cond (ltb j (toI e)) 73 (atX e j)
+
+abbrev atH : Ending → ℕ → ℕ
+atH e j = cond (ltb j (toH e)) 72 (atI e j)
+
+abbrev pub letterIn : Ending → ℕ → ℕ
+letterIn e j = cond (ltb j (e .first)) 83 (atH e j)
+
+-- among some of one letter, or past them
+in-run : (n : ℕ) (l : Letter) (u : List Letter) (j : ℕ) → j < n → byte l ≡ getD (bytes (times n l ++ u)) j 0
+in-run zero l u j h = absurd (omega arith)
+in-run (suc n) l u zero h = refl
+in-run (suc n) l u (suc j) h = in-run n l u j (omega arith)
+
+past-run : (n : ℕ) (l : Letter) (u : List Letter) (j k : ℕ) → j ≡ n + k → getD (bytes u) k 0 ≡ getD (bytes (times n l ++ u)) j 0
+past-run zero l u j k e = ap (λ i. getD (bytes u) i 0) (sym (e ∙ zero-add k))
+past-run (suc n) l u j k e = rw (e ∙ suc-add n k) (past-run n l u (n + k) k refl)
+
+-- place j of all is place k of these letters, which end at b
+run-next : (b n : ℕ) (l : Letter) (u : List Letter) (j k x : ℕ)
+    → j + n ≡ k + b
+    → (b ≤ j → x ≡ getD (bytes u) (j - b) 0)
+    → cond (ltb j b) (byte l) x ≡ getD (bytes (times n l ++ u)) k 0
+run-next b n l u j k x h f = go (ltb j b) refl
+  where
+    go : (t : Bool) → ltb j b ≡ t → cond t (byte l) x ≡ getD (bytes (times n l ++ u)) k 0
+    go true e = in-run n l u k (omega (arith, ltb-true j b e))
+    go false e = f (ltb-false j b e) ∙ past-run n l u k (j - b) (omega (arith, ltb-false j b e))
+
+pub letter-in : (e : Ending) (j : ℕ) → j < endSize e → letterIn e j ≡ getD (bytes (endWord e)) j 0
+letter-in e j h = run-next (e .first) (e .first) S (fromH e) j j (atH e j) refl afterS
+  where
+    afterAll : toS e ≤ j → 87 ≡ getD (bytes (times (e .w) W)) (j - toS e) 0
+    afterAll k =
+        in-run (e .w) W [] (j - toS e) (omega (arith, h, k))
+        ∙ ap (λ v. getD (bytes v) (j - toS e) 0) (append-nil (times (e .w) W))
+
+    afterX : toX e ≤ j → atS e j ≡ getD (bytes (fromS e)) (j - toX e) 0
+    afterX k = run-next (toS e) (e .s) S (times (e .w) W) j (j - toX e) 87 (omega (arith, k)) afterAll
+
+    afterI : toI e ≤ j → atX e j ≡ getD (bytes (fromX e)) (j - toI e) 0
+    afterI k = run-next (toX e) (e .x) X (fromS e) j (j - toI e) (atS e j) (omega (arith, k)) afterX
+
+    afterH : toH e ≤ j → atI e j ≡ getD (bytes (fromI e)) (j - toH e) 0
+    afterH k = run-next (toI e) (e .i) I (fromX e) j (j - toH e) (atX e j) (omega (arith, k)) afterI
+
+    afterS : e .first ≤ j → atH e j ≡ getD (bytes (fromH e)) (j - e .first) 0
+    afterS k = run-next (toH e) (e .h) H (fromI e) j (j - e .first) (atI e j) (omega (arith, k)) afterH
+
+-- by the tests, one after the other
+module _ (e : Ending) (j : ℕ) where
+  pub is-first : j < e .first → 83 ≡ letterIn e j
+  is-first l = rw (lt-ltb j (e .first) l)
+
+  pub is-H : e .first ≤ j → j < toH e → 72 ≡ letterIn e j
+  is-H a l = rw (le-ltb j (e .first) a, lt-ltb j (toH e) l)
+
+  pub is-I : e .first ≤ j → toH e ≤ j → j < toI e → 73 ≡ letterIn e j
+  is-I a b l = rw (le-ltb j (e .first) a, le-ltb j (toH e) b, lt-ltb j (toI e) l)
+
+  pub is-X : e .first ≤ j → toH e ≤ j → toI e ≤ j → j < toX e → 88 ≡ letterIn e j
+  is-X a b c l = rw (le-ltb j (e .first) a, le-ltb j (toH e) b, le-ltb j (toI e) c, lt-ltb j (toX e) l)
+
+  pub is-S : e .first ≤ j → toH e ≤ j → toI e ≤ j → toX e ≤ j → j < toS e → 83 ≡ letterIn e j
+  is-S a b c d l = rw (le-ltb j (e .first) a, le-ltb j (toH e) b, le-ltb j (toI e) c, le-ltb j (toX e) d, lt-ltb j (toS e) l)
+
+  pub is-W : e .first ≤ j → toH e ≤ j → toI e ≤ j → toX e ≤ j → toS e ≤ j → 87 ≡ letterIn e j
+  is-W a b c d l = rw (le-ltb j (e .first) a, le-ltb j (toH e) b, le-ltb j (toI e) c, le-ltb j (toX e) d, le-ltb j (toS e) l)
+
+-- an empty tail is one I
+abbrev pub endingAt : Bool → Coset → Ending
+endingAt phase r =
+    record {
+      first = essesOf (r .axis);
+      h = aitchesOf (r .axis);
+      i = cond (eqb (essesOf (r .axis) + aitchesOf (r .axis) + r .rest .b + r .rest .c + r .rest .d) 0) 1 0;
+      x = r .rest .b;
+      s = r .rest .c;
+      w = cond phase (r .rest .d) 0;
+    }
+
+abbrev pub endingOf : Bool → Clifford → Ending
+endingOf phase q = endingAt phase (splitC q)
+
+-- a size that a program's number holds
+abbrev pub Sized : ℕ → Type 0
+Sized n = n < 9223372036854775808
+
+pub record Ended (phase : Bool) (q : Clifford) (r : Ending) : Type 0 where
+  pub is : r ≡ endingOf phase q
+  pub few : endSize r ≤ 64
+
+-- ---- sizes
+pub times-length : (n : ℕ) (l : Letter) → length (times n l) ≡ n
+times-length zero l = refl
+times-length (suc n) l = ap suc (times-length n l)
+
+pub end-length : (e : Ending) → length (endWord e) ≡ endSize e
+end-length e = simp (length-append, times-length) (omega arith)
+
+axis-few : (a : Axis) → essesOf a + aitchesOf a ≤ 2
+axis-few Axis.I = omega arith
+axis-few Axis.H = omega arith
+axis-few Axis.SH = omega arith
+
+cond-few : (b : Bool) (n m : ℕ) → cond b n m ≤ n + m
+cond-few true n m = omega arith
+cond-few false n m = omega arith
+
+pub end-few : (phase : Bool) (q : Clifford) → Ranged q → endSize (endingOf phase q) ≤ 64
+end-few phase q h =
+    let r = splitC q in
+    let p = split-right q h .ranged in
+    let n = essesOf (r .axis) + aitchesOf (r .axis) + r .rest .b + r .rest .c + r .rest .d in
+    omega (arith, p .b-few, p .c-few, p .d-few, axis-few (r .axis), cond-few phase (r .rest .d) 0, cond-few (eqb n 0) 1 0)
+
+-- ---- with the W letters: the tail, I where it is empty
+orI-more : (u : List Letter) → (length u ≡ 0 → ⊥) → orI u ≡ u
+orI-more [] f = absurd (f refl)
+orI-more (l ∷ u) f = refl
+
+end-none : (x s w : ℕ) (b : Bool)
+    → eqb (0 + 0 + x + s + w) 0 ≡ b
+    → times (cond b 1 0) I ++ (times x X ++ (times s S ++ times w W)) ≡ orI (times x X ++ (times s S ++ times w W))
+end-none x s w true k =
+    let z : 0 + 0 + x + s + w ≡ 0 = eqb-true (0 + 0 + x + s + w) 0 k in
+    let a : x ≡ 0 = omega arith in
+    let b : s ≡ 0 = omega arith in
+    let c : w ≡ 0 = omega arith in
+    rw (a, b, c)
+end-none x s w false k =
+    let z : (0 + 0 + x + s + w ≡ 0 → ⊥) = eqb-false (0 + 0 + x + s + w) 0 k in
+    sym (orI-more (times x X ++ (times s S ++ times w W)) (λ e. z (omega (arith, simp (length-append, times-length) at e))))
+
+end-at : (a : Axis) (c : Clifford)
+    → endWord (endingAt true (record { axis = a; rest = c })) ≡ orI (tailWord (tailAt (record { axis = a; rest = c })))
+end-at Axis.H c = rw (ne-eqb (0 + 1 + c .b + c .c + c .d) 0 (λ z. omega arith))
+end-at Axis.SH c = rw (ne-eqb (1 + 1 + c .b + c .c + c .d) 0 (λ z. omega arith))
+end-at Axis.I c = end-none (c .b) (c .c) (c .d) (eqb (0 + 0 + c .b + c .c + c .d) 0) refl
+
+pub end-whole : (r : Coset) → endWord (endingAt true r) ≡ orI (tailWord (tailAt r))
+end-whole r = end-at (r .axis) (r .rest)
+
+-- ---- without them
+-- a word with no W is kept whatever follows
+pub record Keeps (u : List Letter) : Type 0 where
+  pub keeps : (v : List Letter) → lessFinalW (u ++ v) ≡ u ++ lessFinalW v
+
+keeps-nil : Keeps []
+keeps-nil = record { keeps = λ v. refl }
+
+keeps-append : {u v : List Letter} → Keeps u → Keeps v → Keeps (u ++ v)
+keeps-append {u} {v} h k =
+    record {
+      keeps =
+          λ x.
+          ap lessFinalW (append-assoc u v x)
+          ∙ h .keeps (v ++ x)
+          ∙ ap (λ y. u ++ y) (k .keeps x)
+          ∙ sym (append-assoc u v (lessFinalW x));
+    }
+
+keeps-times : (n : ℕ) (l : Letter) → ((u : List Letter) → kept l u ≡ l ∷ u) → Keeps (times n l)
+keeps-times n l f = record { keeps = λ v. go n v }
+  where
+    go : (n : ℕ) (v : List Letter) → lessFinalW (times n l ++ v) ≡ times n l ++ lessFinalW v
+    go zero v = refl
+    go (suc n) v = ap (kept l) (go n v) ∙ f (times n l ++ lessFinalW v)
+
+no-more : (n : ℕ) → lessFinalW (times n W) ≡ []
+no-more zero = refl
+no-more (suc n) = ap (kept W) (no-more n)
+
+keeps-prefix : (b : Bool) (ss : List Syllable) → Keeps (prefix b ss)
+keeps-prefix true [] = record { keeps = λ v. refl }
+keeps-prefix false [] = keeps-nil
+keeps-prefix b (HT ∷ ss) = keeps-append (keeps-prefix b ss) (record { keeps = λ v. refl })
+keeps-prefix b (SHT ∷ ss) = keeps-append (keeps-prefix b ss) (record { keeps = λ v. refl })
+
+end-less : (e : Ending) → lessFinalW (endWord e) ≡ endWord (record { first = e .first; h = e .h; i = e .i; x = e .x; s = e .s; w = 0 })
+end-less e =
+    keeps-times (e .first) S (λ u. refl) .keeps (fromH e)
+    ∙ ap (λ y. times (e .first) S ++ y)
+    (keeps-times (e .h) H (λ u. refl) .keeps (fromI e)
+    ∙ ap (λ y. times (e .h) H ++ y)
+    (keeps-times (e .i) I (λ u. refl) .keeps (fromX e)
+    ∙ ap (λ y. times (e .i) I ++ y)
+    (keeps-times (e .x) X (λ u. refl) .keeps (fromS e)
+    ∙ ap (λ y. times (e .x) X ++ y)
+    (keeps-times (e .s) S (λ u. refl) .keeps (times (e .w) W)
+    ∙ ap (λ y. times (e .s) S ++ y) (no-more (e .w))))))
+
+-- the text of a reading
+abbrev pub textOf : Bool → State → List Letter
+textOf phase st = prefix (st .lead) (st .stack) ++ endWord (endingOf phase (st .q))
+
+pub text-less : (st : State) → lessFinalW (textOf true st) ≡ textOf false st
+text-less st =
+    keeps-prefix (st .lead) (st .stack) .keeps (endWord (endingOf true (st .q)))
+    ∙ ap (λ u. prefix (st .lead) (st .stack) ++ u) (end-less (endingOf true (st .q)))
+
+-- ---- T letters
+times-tees : (n : ℕ) (l : Letter) → Rattle.exact.specs.Meaning.Word.tee l ≡ 0 → tees (times n l) ≡ 0
+times-tees zero l e = refl
+times-tees (suc n) l e = omega (arith, times-tees n l e)
+
+pub end-tees : (e : Ending) → tees (endWord e) ≡ 0
+end-tees e = simp (tees-append, times-tees)
+
+-- ---- as the program has it
+pub record Few (r : Coset) : Type 0 where
+  pub axis : essesOf (r .axis) + aitchesOf (r .axis) ≤ 2
+  pub b : r .rest .b ≤ 1
+  pub c : r .rest .c ≤ 3
+  pub d : r .rest .d ≤ 7
+
+pub split-few : {q : Clifford} {r : Coset} → Ranged q → r ≡ splitC q → Few r
+split-few {q} h e =
+    let p = split-right q h .ranged in
+    rw e
+    (record {
+      axis = axis-few (splitC q .axis);
+      b = omega (arith, p .b-few);
+      c = omega (arith, p .c-few);
+      d = omega (arith, p .d-few);
+    })
+
+pub ended : {phase : Bool} {q : Clifford} {r : Coset} {first h i x s w last : ℕ}
+    → Ranged q
+    → r ≡ splitC q
+    → first ≡ essesOf (r .axis)
+    → h ≡ aitchesOf (r .axis)
+    → x ≡ r .rest .b
+    → s ≡ r .rest .c
+    → w ≡ r .rest .d
+    → i ≡ cond (eqb (first + h + x + s + w) 0) 1 0
+    → last ≡ cond phase w 0
+    → Ended phase q (record { first = first; h = h; i = i; x = x; s = s; w = last })
+ended {phase} {q} {r} {first} {h} {i} {x} {s} {w} {last} k e e₁ e₂ e₃ e₄ e₅ e₆ e₇ =
+    record { is = is; few = subst (λ (n : Ending). endSize n ≤ 64) (sym is) (end-few phase q k) }
+  where
+    is : _≡_ {A = Ending} (record { first = first; h = h; i = i; x = x; s = s; w = last }) (endingOf phase q)
+    is = rw (e₆, e₇, e₁, e₂, e₃, e₄, e₅, e)

@@ -1,0 +1,192 @@
+// Normal words into a lent buffer. The length and the T letters are known before a byte is written.
+ghost use mathlib.Core.Path.{_≡_};
+ghost use mathlib.Core.Bool.{cond};
+ghost use mathlib.Core.List.{[], _∷_};
+ghost use Prim.Native.Nat.{_+_, _≤_, _<_};
+ghost use lib.Dec.{eqb};
+ghost use lib.ListN.{length, replicate, take};
+ghost use Rattle.exact.specs.Meaning.Word.{bytes};
+ghost use Rattle.reading.specs.Steps.{Right, Fits, tailOf};
+ghost use Rattle.reading.specs.Syllables.{syllableWord};
+ghost use Rattle.writing.specs.Put.{Put};
+ghost use Rattle.writing.specs.Endings.{essesOf, aitchesOf, endWord, endSize, Sized, letterIn, Ended};
+ghost use Rattle.writing.specs.Codes.{codesWord};
+use clifford::Axis;
+use reading::Syllable;
+use reading::steps::Tail;
+
+// How often each letter stands in a tail: S, H, I, X, S and W, in this order.
+pub struct Ending {
+    pub first: usize,
+    pub h: usize,
+    pub i: usize,
+    pub x: usize,
+    pub s: usize,
+    pub w: usize,
+}
+
+fn wide(x: u8) -> usize
+    ensures { λ r. ⌜ r ≡ x ⌝ }
+{
+    x as usize
+}
+
+fn esses(axis: Axis) -> usize
+    ensures { λ r. ⌜ r ≡ essesOf axis ⌝ }
+{
+    match axis {
+        Axis::I => 0,
+        Axis::H => 0,
+        Axis::SH => 1,
+    }
+}
+
+fn aitches(axis: Axis) -> usize
+    ensures { λ r. ⌜ r ≡ aitchesOf axis ⌝ }
+{
+    match axis {
+        Axis::I => 0,
+        Axis::H => 1,
+        Axis::SH => 1,
+    }
+}
+
+// An empty tail is one I.
+fn one_if_none(n: usize) -> usize
+    ensures { λ r. ⌜ r ≡ cond (eqb n 0) 1 0 ⌝ }
+{
+    if n == 0 { 1 } else { 0 }
+}
+
+fn kept(phase: bool, w: usize) -> usize
+    ensures { λ r. ⌜ r ≡ cond phase w 0 ⌝ }
+{
+    if phase { w } else { 0 }
+}
+
+pub fn ending_of(table: &[u8], t: Tail, phase: bool) -> Ending
+    requires { ⌜ Right (now table) ⌝ ∗ ⌜ Fits t ⌝ }
+    ensures { λ r. ⌜ Ended phase (tailOf t) r ⌝ }
+{
+    let split = t.split(table);
+    let axis = split.axis;
+    let rest = split.rest;
+    let first = esses(axis);
+    let h = aitches(axis);
+    let x = wide(rest.b);
+    let s = wide(rest.c);
+    let w = wide(rest.d);
+    let i = one_if_none(first + h + x + s + w);
+    let last = kept(phase, w);
+    Ending {
+        first: first,
+        h: h,
+        i: i,
+        x: x,
+        s: s,
+        w: last,
+    }
+}
+
+impl Ending {
+    pub fn size(self) -> usize
+        requires { ⌜ Sized (endSize self) ⌝ }
+        ensures { λ r. ⌜ r ≡ endSize self ⌝ }
+    {
+        self.first + self.h + self.i + self.x + self.s + self.w
+    }
+
+    // The letter at a place of the tail.
+    fn letter(self, j: usize) -> u8
+        requires { ⌜ Sized (endSize self) ⌝ }
+        ensures { λ r. ⌜ r ≡ letterIn self j ⌝ }
+    {
+        let first = self.first;
+        let h = first + self.h;
+        let i = h + self.i;
+        let x = i + self.x;
+        let s = x + self.s;
+        if j < first {
+            return b'S';
+        }
+        if j < h {
+            return b'H';
+        }
+        if j < i {
+            return b'I';
+        }
+        if j < x {
+            return b'X';
+        }
+        if j < s {
+            return b'S';
+        }
+        b'W'
+    }
+}
+
+pub fn put_letter(buf: &mut [u8], at: usize, letter: u8) -> usize
+    requires { ⌜ at < length (now buf) ⌝ }
+    ensures { λ r. ⌜ Put (now (buf .entry)) at (letter ∷ []) (now (buf .exit)) r ⌝ }
+{
+    buf[at] = letter;
+    at + 1
+}
+
+pub fn put_times(buf: &mut [u8], at: usize, letter: u8, n: usize) -> usize
+    requires { ⌜ at + n ≤ length (now buf) ⌝ }
+    ensures { λ r. ⌜ Put (now (buf .entry)) at (replicate n letter) (now (buf .exit)) r ⌝ }
+{
+    let mut j: usize = 0;
+    while j < n {
+        buf[at + j] = letter;
+        j += 1;
+    }
+    at + n
+}
+
+fn put_syllable(buf: &mut [u8], at: usize, s: Syllable) -> usize
+    requires { ⌜ at + length (syllableWord s) ≤ length (now buf) ⌝ }
+    ensures { λ r. ⌜ Put (now (buf .entry)) at (bytes (syllableWord s)) (now (buf .exit)) r ⌝ }
+{
+    match s {
+        Syllable::I => at,
+        Syllable::T => put_letter(buf, at, b'T'),
+        Syllable::HT => {
+            let a = put_letter(buf, at, b'H');
+            put_letter(buf, a, b'T')
+        }
+        Syllable::SHT => {
+            let a = put_letter(buf, at, b'S');
+            let b = put_letter(buf, a, b'H');
+            put_letter(buf, b, b'T')
+        }
+    }
+}
+
+pub fn put_syllables(buf: &mut [u8], items: &[u8], count: usize) -> usize
+    requires { ⌜ (count ≤ length (now items)) × (length (codesWord (take count (now items))) ≤ length (now buf)) ⌝ }
+    ensures { λ r. ⌜ Put (now (buf .entry)) 0 (bytes (codesWord (take count (now (items .entry))))) (now (buf .exit)) r ⌝ }
+{
+    let mut at: usize = 0;
+    let mut k: usize = 0;
+    while k < count {
+        let s = Syllable::of(items[k]);
+        at = put_syllable(buf, at, s);
+        k += 1;
+    }
+    at
+}
+
+pub fn put_ending(buf: &mut [u8], at: usize, e: Ending) -> usize
+    requires { ⌜ at + endSize e ≤ length (now buf) ⌝ }
+    ensures { λ r. ⌜ Put (now (buf .entry)) at (bytes (endWord e)) (now (buf .exit)) r ⌝ }
+{
+    let n = e.size();
+    let mut j: usize = 0;
+    while j < n {
+        buf[at + j] = e.letter(j);
+        j += 1;
+    }
+    at + n
+}
