@@ -2,3 +2,4 @@
 pub mod Letters
 pub mod NormalTest
 pub mod Table
+pub mod Outside

@@ -30,7 +30,8 @@ use Rattle.writing.specs.Endings.{endWord, endSize, endingOf, Ended, end-length
 use Rattle.writing.specs.Codes.{codesWord, held-word, bytes-append}
 use Rattle.normal_form.specs.declared.Written.{Written}
 use Rattle.normal_form.specs.Outcome.{Normalises, Shortens, normalises-single, shortens-single, refused, counts}
-use Rattle.normal_form.specs.Outcome.{WordOutcome, RoomOutcome, outside-at, no-room, written-whole, answered-with}
+use Rattle.normal_form.specs.Outcome.{WordOutcome}
+use Rattle.normal_form.specs.Ways.{RoomOutcome, outside-at, no-room, written-whole, answered-with}
 
 -- ---- the answers of job 3, with the final W letters, and of job 5, without
 abbrev pub Answers : Bool → List Letter → List Letter → Type 0

@@ -1,16 +1,15 @@
 -- Programs that climb the ladder wrongly do not meet the promises of jobs 1 and 2: a refusal passed over, two looked at in another order, a place
 -- forgotten. Assumes nothing.
 use mathlib.Core.Path.{_≡_, refl}
-use mathlib.Core.List.{List, [], _∷_}
-use Prim.Native.Nat.{ℕ, zero, suc, _<_}
+use Prim.Native.Nat.{ℕ}
 use native.Mathlib.Omega.{arith}
 use lib.IntN.{pos}
-use lib.ListN.{getD}
-use Rattle.exact.specs.Meaning.Word.{Letter, I, H, S, X, W, T′, byte, job2, In, FirstOutside, Spelled}
+use Rattle.exact.specs.Meaning.Word.{job2, Spelled}
 use Rattle.exact.specs.Meaning.Triple.{entries}
 use Rattle.exact.specs.Meaning.Limits as Limits
 use Rattle.exact.specs.Meaning.Outcome.{none, _then_}
 use Rattle.exact.specs.Meaning.Refusals.{long, letter, deep, InExponents, exponent, coefficient, unitary}
+use Rattle.exact.specs.Cases.Outside.{third, i-third}
 use Rattle.exact.specs.Outcomes.Ladder.{only-refused}
 use Rattle.exact.specs.Outcomes.Places.{one-plain, one-letter}
 use Rattle.ring.specs.Number.{quad}
@@ -36,26 +35,7 @@ exponent-first =
     (coefficient (quad large) (quad (number 0)) then unitary (pos 61) (quad large) (quad (number 0)) then none) tt
 
 -- ---- the word HHi: refused 2, at place 2 and at no other
-abbrev third : List ℕ
-third = 72 ∷ 72 ∷ 105 ∷ []
-
-no-letter : (l : Letter) → byte l ≡ 105 → ⊥
-no-letter I e = omega arith
-no-letter H e = omega arith
-no-letter S e = omega arith
-no-letter X e = omega arith
-no-letter W e = omega arith
-no-letter T′ e = omega arith
-
-letters-before : (i : ℕ) → i < 2 → In job2 (getD third i 0)
-letters-before zero h = record { letter-there = H; allowed = tt; is = refl }
-letters-before (suc zero) h = record { letter-there = H; allowed = tt; is = refl }
-letters-before (suc (suc i)) h = absurd (omega arith)
-
-outside : FirstOutside job2 third 2
-outside = record { there = omega arith; outside = λ h. no-letter (h .letter-there) (h .is); before = letters-before }
-
 pub place-kept : (r : FromGates) → MatrixOutcome third r → r ≡ stopped Limits.Letter 2
 place-kept =
-    only-refused stopped (Spelled Multiplies third) (letter job2 third) one-letter 2 outside (long third then none) (deep third then none)
+    only-refused stopped (Spelled Multiplies third) (letter job2 third) one-letter 2 (i-third job2 tt) (long third then none) (deep third then none)
     ((λ p h. omega (arith, h .0)), tt)

@@ -2,7 +2,7 @@
 use mathlib.Core.Path.{refl}
 use borrow.Author.Needs.{needs}
 use Rattle.clifford.specs.Cliffords.{mulC, invC, tconjC}
-use Rattle.normal_form.specs.Outcome.{too-long}
+use Rattle.normal_form.specs.Ways.{too-long}
 use Rattle.reading.specs.Steps.{right}
 use Rattle.normal_form.proofs.answer.Statement.{statement}
 use Rattle.normal_form.proofs.answer.Tie as tie
