@@ -17,9 +17,9 @@ ghost use Rattle.synthesis_of_clifford_t.specs.Outcome.{SynthesiseOutcom
 ghost use Rattle.synthesis_of_clifford_t.specs.Code.{answerOf};
 ghost use Rattle.synthesis_of_clifford_t.specs.Closes.{signOf, closingBy, Closes};
 ghost use Rattle.synthesis_of_clifford_t.specs.Answer.{AnsweredBy};
-use writing::Ending;
 use ring::ZOmega;
 use unitary::DOmegaUnitary;
+use writing::Ending;
 
 // What job 4 hands back: the refusal or 0, the bytes written and the T letters among them.
 pub struct Synthesis {
