@@ -35,7 +35,7 @@ fn refused(number: u8, place: usize) -> Written
     }
 }
 
-// The word of a reading, if there is room for it.
+// The word of a reading, if there is room for it: its length and its T letters are known before a byte is written.
 fn write(table: &[u8], items: &[u8], r: Reading, phase: bool, buf: &mut [u8]) -> Written
     requires { ⌜ Right (now table) ⌝ ∗ ⌜ Readable (now items) r ⌝ ∗ ⌜ r .count ≤ 4096 ⌝ }
     ensures { λ n. ⌜ WritesReading phase (now (items .entry)) r (now (buf .entry)) n (now (buf .exit)) ⌝ }

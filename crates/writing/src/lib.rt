@@ -1,4 +1,4 @@
-// Normal words into a lent buffer. The length and the T letters are known before a byte is written.
+// The letters of a normal word, put into a lent buffer: those of its syllables, and those of its tail.
 ghost use mathlib.Core.Path.{_≡_};
 ghost use mathlib.Core.Bool.{cond};
 ghost use mathlib.Core.List.{[], _∷_};
