@@ -17,10 +17,10 @@ abbrev μ-loop : tie.MeasureT-loop
 μ-loop work₀ u₀ len₀ work u len = left (triple u)
 
 loop-holds : tie.Need-loop-holds Inv-loop μ-loop
-loop-holds c = search (needs, writing-start)
+loop-holds c = search writing-start
 
 reduce-denomexp-requires : tie.Need-reduce-denomexp-requires Inv-loop μ-loop
-reduce-denomexp-requires c κs = search (needs, still-good, still-few)
+reduce-denomexp-requires c κs = search (still-good, still-few)
 
 enum-known-m : tie.Need-enum-known-m Inv-loop μ-loop
 enum-known-m c = search needs
@@ -29,37 +29,37 @@ enum-told : tie.Need-enum-told Inv-loop μ-loop
 enum-told c = search needs
 
 same-length : tie.Need-same-length Inv-loop μ-loop
-same-length c = absurd (search (needs, not-ended))
+same-length c = absurd (search not-ended)
 
 returns : tie.Need-returns Inv-loop μ-loop
-returns c = absurd (search (needs, not-ended))
+returns c = absurd (search not-ended)
 
 sub-write-block : tie.Need-sub-write-block Inv-loop μ-loop
-sub-write-block c = search (needs, len-inside)
+sub-write-block c = search len-inside
 
 part-write-block-start : tie.Need-part-write-block-start Inv-loop μ-loop
-part-write-block-start c = search (needs, len-inside)
+part-write-block-start c = search len-inside
 
 part-write-block-end : tie.Need-part-write-block-end Inv-loop μ-loop
 part-write-block-end c = omega arith
 
 write-block-requires : tie.Need-write-block-requires Inv-loop μ-loop
-write-block-requires c κs = search (needs, step-few, step-room)
+write-block-requires c κs = search (step-few, step-room)
 
 add-len : tie.Need-add-len Inv-loop μ-loop
-add-len c = search (needs, block-fits)
+add-len c = search block-fits
 
 loop-less : tie.Need-loop-less Inv-loop μ-loop
-loop-less c = search (needs, step-nearer)
+loop-less c = search step-nearer
 
 loop-again : tie.Need-loop-again Inv-loop μ-loop
-loop-again c = search (needs, step-writing)
+loop-again c = search step-writing
 
 sub-write-closing : tie.Need-sub-write-closing Inv-loop μ-loop
-sub-write-closing c = search (needs, len-inside)
+sub-write-closing c = search len-inside
 
 part-write-closing-start : tie.Need-part-write-closing-start Inv-loop μ-loop
-part-write-closing-start c = search (needs, len-inside)
+part-write-closing-start c = search len-inside
 
 part-write-closing-end : tie.Need-part-write-closing-end Inv-loop μ-loop
 part-write-closing-end c = omega arith
@@ -68,13 +68,13 @@ write-closing-requires : tie.Need-write-closing-requires Inv-loop μ-loop
 write-closing-requires c κs = search (needs, still-good, end-room)
 
 add-result : tie.Need-add-result Inv-loop μ-loop
-add-result c = search (needs, end-fits)
+add-result c = search end-fits
 
 same-length-2 : tie.Need-same-length-2 Inv-loop μ-loop
-same-length-2 c = search (needs, length-kept)
+same-length-2 c = search length-kept
 
 returns-2 : tie.Need-returns-2 Inv-loop μ-loop
-returns-2 c = search (needs, end-put)
+returns-2 c = search end-put
 
 pub decompose-domega-unitary-spec : {M : Type 1} → statement M
 decompose-domega-unitary-spec =

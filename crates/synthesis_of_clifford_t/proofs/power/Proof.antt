@@ -18,10 +18,10 @@ sub-result : tie.Need-sub-result
 sub-result c = omega (arith, bitShift-few (c .before .before .before .args .z), c .before .before .bit-shift .ensures)
 
 returns : tie.Need-returns
-returns c = search (needs, power-less)
+returns c = search power-less
 
 returns-2 : tie.Need-returns-2
-returns-2 c = search (needs, power-not-less)
+returns-2 c = search power-not-less
 
 pub power-spec : {M : Type 1} → statement M
 power-spec =

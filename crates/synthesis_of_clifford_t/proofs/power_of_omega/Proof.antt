@@ -11,7 +11,7 @@ by-sign-requires : tie.Need-by-sign-requires
 by-sign-requires c κs = search needs
 
 returns : tie.Need-returns
-returns c = search (needs, power-by-d)
+returns c = search power-by-d
 
 odd-requires-2 : tie.Need-odd-requires-2
 odd-requires-2 c κs = search needs
@@ -20,7 +20,7 @@ by-sign-requires-2 : tie.Need-by-sign-requires-2
 by-sign-requires-2 c κs = search needs
 
 returns-2 : tie.Need-returns-2
-returns-2 c = search (needs, power-by-c)
+returns-2 c = search power-by-c
 
 odd-requires-3 : tie.Need-odd-requires-3
 odd-requires-3 c κs = search needs
@@ -29,13 +29,13 @@ by-sign-requires-3 : tie.Need-by-sign-requires-3
 by-sign-requires-3 c κs = search needs
 
 returns-3 : tie.Need-returns-3
-returns-3 c = search (needs, power-by-b)
+returns-3 c = search power-by-b
 
 by-sign-requires-4 : tie.Need-by-sign-requires-4
 by-sign-requires-4 c κs = search needs
 
 returns-4 : tie.Need-returns-4
-returns-4 c = search (needs, power-by-a)
+returns-4 c = search power-by-a
 
 pub power-of-omega-spec : {M : Type 1} → statement M
 power-of-omega-spec =

@@ -10,10 +10,10 @@ returns : tie.Need-returns
 returns c = search needs
 
 residue-requires : tie.Need-residue-requires
-residue-requires c κs = search (needs, good-z)
+residue-requires c κs = search good-z
 
 residue-requires-2 : tie.Need-residue-requires-2
-residue-requires-2 c κs = search (needs, good-w)
+residue-requires-2 c κs = search good-w
 
 cast-power : tie.Need-cast-power
 cast-power c = search needs
@@ -22,13 +22,13 @@ cast-power-2 : tie.Need-cast-power-2
 cast-power-2 c = search needs
 
 power-requires : tie.Need-power-requires
-power-requires c κs = search (needs, residue-few)
+power-requires c κs = search residue-few
 
 mul-by-t-inv-power-from-left-requires : tie.Need-mul-by-t-inv-power-from-left-requires
-mul-by-t-inv-power-from-left-requires c κs = search (needs, good-w, power-fits)
+mul-by-t-inv-power-from-left-requires c κs = search (good-w, power-fits)
 
 mul-by-h-from-left-requires : tie.Need-mul-by-h-from-left-requires
-mul-by-h-from-left-requires c κs = search (needs, turned-z, turned-w, turned-n, turned-k)
+mul-by-h-from-left-requires c κs = search (turned-z, turned-w, turned-n, turned-k)
 
 cast-falls : tie.Need-cast-falls
 cast-falls c = search needs
@@ -37,24 +37,24 @@ cast-falls-2 : tie.Need-cast-falls-2
 cast-falls-2 c = search needs
 
 falls-requires : tie.Need-falls-requires
-falls-requires c κs = search (needs, residue-few)
+falls-requires c κs = search residue-few
 
 halved-requires : tie.Need-halved-requires
-halved-requires c κs = search (needs, raised-z, raised-w, raised-over-1)
+halved-requires c κs = search (raised-z, raised-w, raised-over-1)
 
 -- `search` enters 128 records of what is at hand; the first half of the path lies beyond them, and is named from `power` on
 returns-2 : tie.Need-returns-2
 returns-2 c =
     let the-power = c .before .before .before .before .before in
-    search (needs, step-falls)
+    search step-falls
 
 lowered-requires : tie.Need-lowered-requires
-lowered-requires c κs = search (needs, raised-z, raised-w, raised-over-0)
+lowered-requires c κs = search (raised-z, raised-w, raised-over-0)
 
 returns-3 : tie.Need-returns-3
 returns-3 c =
     let the-power = c .before .before .before .before .before in
-    search (needs, step-stays)
+    search step-stays
 
 pub reduce-denomexp-spec : {M : Type 1} → statement M
 reduce-denomexp-spec =

@@ -8,22 +8,22 @@ cast-put-times : tie.Need-cast-put-times
 cast-put-times c = search needs
 
 put-times-requires : tie.Need-put-times-requires
-put-times-requires c κs = search (needs, t-room)
+put-times-requires c κs = search t-room
 
 cast-put-times-2 : tie.Need-cast-put-times-2
 cast-put-times-2 c = search needs
 
 put-times-requires-2 : tie.Need-put-times-requires-2
-put-times-requires-2 c κs = search (needs, s-room)
+put-times-requires-2 c κs = search s-room
 
 put-letter-requires : tie.Need-put-letter-requires
-put-letter-requires c κs = search (needs, h-room)
+put-letter-requires c κs = search h-room
 
 same-length : tie.Need-same-length
 same-length c = search needs
 
 returns : tie.Need-returns
-returns c = search (needs, block-put)
+returns c = search block-put
 
 pub write-block-spec : {M : Type 1} → statement M
 write-block-spec =

@@ -8,16 +8,16 @@ closing-of-requires : tie.Need-closing-of-requires
 closing-of-requires c κs = search needs
 
 put-times-requires : tie.Need-put-times-requires
-put-times-requires c κs = search (needs, tees-room)
+put-times-requires c κs = search tees-room
 
 put-ending-requires : tie.Need-put-ending-requires
-put-ending-requires c κs = search (needs, tail-room)
+put-ending-requires c κs = search tail-room
 
 same-length : tie.Need-same-length
 same-length c = search needs
 
 returns : tie.Need-returns
-returns c = search (needs, closing-put)
+returns c = search closing-put
 
 pub write-closing-spec : {M : Type 1} → statement M
 write-closing-spec =
