@@ -5,11 +5,12 @@ use mathlib.Core.List.{List}
 use Prim.Native.Nat.{ℕ}
 use lib.IntN.{ℤ}
 use lib.ListN.{length}
+use Rattle.exact.specs.Meaning.Matrix.{Matrix}
 use Rattle.exact.specs.Meaning.Word.{Letter, tees, bytes}
 use Rattle.exact.specs.Meaning.Normal.{NormalOf}
 use Rattle.exact.specs.Meaning.Triple.{entries}
 use Rattle.exact.specs.Meaning.Limits.{Accepted}
-use Rattle.exact.specs.Meaning.Outcome.{Outcome, none, _then_, _also_}
+use Rattle.exact.specs.Meaning.Outcome.{Refusals, Outcome, none, _then_, _also_}
 use Rattle.exact.specs.Meaning.Lent.{lent, untouched, Writes}
 use Rattle.exact.specs.Meaning.Refusals.{checks, room}
 use Rattle.exact.specs.Outcomes.Ladder.{one-outcome}
@@ -26,15 +27,20 @@ refused n p = record { refusal = n; bytes = 0; tees = 0 }
 abbrev pub counts : List Letter → Synthesis
 counts v = record { refusal = Accepted; bytes = length v; tees = tees v }
 
-abbrev pub SynthesiseOutcome : ℤ → ℕ → ZOmega → ZOmega → List ℕ → Synthesis → List ℕ → Type 0
-SynthesiseOutcome k n z w old r new =
-    let m = entries (given k n z w) in
-    Outcome (untouched refused old) (Writes bytes counts (NormalOf m) old) (checks k (quad z) (quad w) also (room bytes (NormalOf m) old then none)) (lent r new)
+-- refusals 3, 4, 5 and 7, or the normal word with the triple's matrix, written
+module _ (k : ℤ) (n : ℕ) (z w : ZOmega) (old : List ℕ) where
+  abbrev pub asked : Matrix
+  asked = entries (given k n z w)
 
--- ---- two allowed outcomes are equal
-module _ (k : ℤ) (n : ℕ) (z w : ZOmega) (old : List ℕ) (r : Synthesis) (new : List ℕ) (r′ : Synthesis) (new′ : List ℕ) where
-  pub synthesise-unique : SynthesiseOutcome k n z w old r new → SynthesiseOutcome k n z w old r′ new′ → lent r new ≡ lent r′ new′
-  synthesise-unique =
-      let m = entries (given k n z w) in
-      one-outcome (untouched refused old) (Writes bytes counts (NormalOf m) old) (checks k (quad z) (quad w) also (room bytes (NormalOf m) old then none))
-      (one-plain, (one-plain, (one-plain, (one-plain, tt)))) (λ h. one-written bytes counts (NormalOf m) old (one-normal m)) (lent r new) (lent r′ new′)
+  abbrev pub refusals : Refusals
+  refusals = checks k (quad z) (quad w) also (room bytes (NormalOf asked) old then none)
+
+  abbrev pub SynthesiseOutcome : Synthesis → List ℕ → Type 0
+  SynthesiseOutcome r new = Outcome (untouched refused old) (Writes bytes counts (NormalOf asked) old) refusals (lent r new)
+
+  -- two allowed outcomes are equal
+  pub synthesise-unique : (r : Synthesis) (new : List ℕ) (r′ : Synthesis) (new′ : List ℕ) → SynthesiseOutcome r new → SynthesiseOutcome r′ new′
+      → lent r new ≡ lent r′ new′
+  synthesise-unique r new r′ new′ =
+      one-outcome (untouched refused old) (Writes bytes counts (NormalOf asked) old) refusals (one-plain, (one-plain, (one-plain, (one-plain, tt))))
+      (λ h. one-written bytes counts (NormalOf asked) old (one-normal asked)) (lent r new) (lent r′ new′)

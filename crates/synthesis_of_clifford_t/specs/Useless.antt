@@ -7,13 +7,11 @@ use native.Mathlib.Omega.{arith}
 use lib.Dec.{T, leb, le→leb}
 use lib.IntN.{ℤ, pos, negsuc}
 use lib.ListN.{length, replicate}
-use Rattle.exact.specs.Meaning.Matrix.{Matrix}
 use Rattle.exact.specs.Meaning.Word.{Letter, I, H, T′, word, bytes}
 use Rattle.exact.specs.Meaning.Normal.{NormalOf}
 use Rattle.exact.specs.Meaning.Triple.{Triple, entries}
-use Rattle.exact.specs.Meaning.Outcome.{none, _then_, _also_}
 use Rattle.exact.specs.Meaning.Lent.{lent, over, untouched, Writes}
-use Rattle.exact.specs.Meaning.Refusals.{InExponents, checks, TooMany, room}
+use Rattle.exact.specs.Meaning.Refusals.{InExponents, TooMany}
 use Rattle.exact.specs.Cases.Letters.{bytes-length}
 use Rattle.exact.specs.Cases.NormalTest.{normalTest, normal-by}
 use Rattle.exact.specs.Matrices.Test.{sameTest, same-by}
@@ -29,30 +27,26 @@ use Rattle.synthesis_of_clifford_t.specs.Residues.{powerBy, back}
 use Rattle.synthesis_of_clifford_t.specs.Step.{block, power}
 use Rattle.synthesis_of_clifford_t.specs.Closing.{closing}
 use Rattle.synthesis_of_clifford_t.specs.Steps.{gathered, letters}
-use Rattle.synthesis_of_clifford_t.specs.Outcome.{refused, counts, SynthesiseOutcome}
+use Rattle.synthesis_of_clifford_t.specs.Outcome.{refused, counts, asked, refusals, SynthesiseOutcome}
 
 abbrev number : ℤ → ℤ → ℤ → ℤ → ZOmega
 number a b c d = record { a = a; b = b; c = c; d = d }
 
 -- with the answer v, and room for it, no other numbers are allowed
-module _ (k : ℤ) (n : ℕ) (z w : ZOmega) (v : List Letter) (old : List ℕ) (taken : Taken k (quad z) (quad w)) where
-  abbrev asked : Matrix
-  asked = entries (given k n z w)
+module _ (k : ℤ) (n : ℕ) (z w : ZOmega) (v : List Letter) (old : List ℕ) (taken : Taken k (quad z) (quad w)) (normal : T (normalTest v))
+    (same : T (sameTest (entries (given k n z w)) (word v))) (fits : length v ≤ length old) where
+  right : NormalOf (asked k n z w old) v
+  right = record { normal = normal-by v normal; same = same-by (asked k n z w old) (word v) same }
 
-  only : T (normalTest v) → T (sameTest asked (word v)) → length v ≤ length old → (r : Synthesis) (new : List ℕ) → SynthesiseOutcome k n z w old r new → r ≡ counts v
-  only normal same fits r new o =
-      handed-same (written .is ∙ ap (λ (u : List Letter). lent (counts u) (over (bytes u) old)) (one-normal asked (written .v) v (written .answer) right))
-    where
-      right : NormalOf asked v
-      right = record { normal = normal-by v normal; same = same-by asked (word v) same }
+  has-room : (p : ℕ) → TooMany bytes (NormalOf (asked k n z w old)) old × (p ≡ 0) → ⊥
+  has-room p h = omega (arith, h .0 .more, ap length (one-normal (asked k n z w old) (h .0 .v) v (h .0 .answer) right), bytes-length (h .0 .v))
 
-      enough : (p : ℕ) → TooMany bytes (NormalOf asked) old × (p ≡ 0) → ⊥
-      enough p h = omega (arith, h .0 .more, ap length (one-normal asked (h .0 .v) v (h .0 .answer) right), bytes-length (h .0 .v))
-
-      written : Writes bytes counts (NormalOf asked) old (lent r new)
-      written =
-          answered (untouched refused old) (Writes bytes counts (NormalOf asked) old) (checks k (quad z) (quad w) also (room bytes (NormalOf asked) old then none))
-          (let t = taken-checks k (quad z) (quad w) taken in (t .0, (t .1 .0, (t .1 .1 .0, (enough, tt))))) (lent r new) o
+  only : (r : Synthesis) (new : List ℕ) → SynthesiseOutcome k n z w old r new → r ≡ counts v
+  only r new o =
+      let t = taken-checks k (quad z) (quad w) taken in
+      let x = answered (untouched refused old) (Writes bytes counts (NormalOf (asked k n z w old)) old) (refusals k n z w old)
+      (t .0, (t .1 .0, (t .1 .1 .0, (has-room, tt)))) (lent r new) o in
+      handed-same (x .is ∙ ap (λ (u : List Letter). lent (counts u) (over (bytes u) old)) (one-normal (asked k n z w old) (x .v) v (x .answer) right))
 
 in-limits : (k : ℕ) → T (leb k 60) → InExponents (pos k)
 in-limits k t = record { low = record { le = le→leb 0 k (omega arith) }; high = record { le = t } }

@@ -41,7 +41,8 @@ same-length c = search needs
 
 returns : tie.Need-returns
 returns c =
-    let d = c .before .before .before .before .before .before in
+    let e = c .before .before .before in
+    let d = e .before .before .before in
     let s = d .before .before .before in
     normalised (triple (s .args .t)) (good-ready (s .pre .0)) (s .pre .1) (now (s .args .buf)) (c .before .before .normalise .result) _ _
     (word-is _ (u d) _ _ (put d)) (c .before .before .normalise .ensures)
