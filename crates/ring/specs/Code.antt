@@ -25,7 +25,7 @@ Passes bs e = T (allFit (2 ^ hbits w64) (λ i. getD bs i 0) e)
 within : {n : ℕ} (x : ZOmega) → Sized n (quad x) → (xs : List ℤ) (bs : List ℕ) → Within xs bs → Within (four x xs) (limits n bs)
 within x s xs bs h = (s .a-small, (s .b-small, (s .c-small, (s .d-small, h))))
 
--- The code comes first, so that `search` finds the numbers in what is to be shown and their sizes among what is known.
+-- The code comes first: the numbers are then found in what is to be shown, and their sizes among what is known.
 module _ (n : ℕ) (e : Code) (t : Passes (limits n []) e) (x : ZOmega) (s : Sized n (quad x)) where
   pub fits₁ : SFits w64 (ran w64 (at ints (four x [])) e)
   fits₁ = need-by w64 (four x []) (limits n []) (within x s [] [] tt) e t
@@ -42,11 +42,3 @@ module _ (n : ℕ) (e : Code) (t : Passes (limits n (limits n [])) e) (x y : ZOm
 
   pub is₂ : held w64 (ran w64 (at ints (four x (four y []))) e) ≡ value (at ints (four x (four y []))) e
   is₂ = result-by w64 (four x (four y [])) (limits n (limits n [])) both e t
-
--- with the number given first
-module _ (n : ℕ) (x : ZOmega) (s : Sized n (quad x)) (e : Code) (t : Passes (limits n []) e) where
-  pub need₁ : SFits w64 (ran w64 (at ints (four x [])) e)
-  need₁ = fits₁ n e t x s
-
-  pub gives₁ : held w64 (ran w64 (at ints (four x [])) e) ≡ value (at ints (four x [])) e
-  gives₁ = is₁ n e t x s

@@ -21,7 +21,7 @@ use Rattle.exact.specs.Whole.Machine.{held, arg}
 use Rattle.exact.specs.Algebra.OmegaPower.{which}
 use Rattle.ring.specs.declared.ZOmega.{ZOmega}
 use Rattle.ring.specs.Number.{quad, Small}
-use Rattle.ring.specs.Code.{gives₁}
+use Rattle.ring.specs.Code.{is₁}
 use Rattle.unitary.specs.declared.DOmegaUnitary.{DOmegaUnitary}
 use Rattle.unitary.specs.Triples.{triple}
 use Rattle.unitary.specs.Acts.{Good, good-z, good-w}
@@ -87,16 +87,16 @@ module _ (x : Ω) where
 -- as the code finds it: by the first coefficient that is odd, each as the machine reads it back
 module _ (x : ZOmega) (small : Small x) (r : ℕ) where
   a-read : held w64 (x .a) ≡ x .a
-  a-read = gives₁ (2 ^ 31) x (small .sized) (arg 0) tt
+  a-read = is₁ (2 ^ 31) (arg 0) tt x (small .sized)
 
   b-read : held w64 (x .b) ≡ x .b
-  b-read = gives₁ (2 ^ 31) x (small .sized) (arg 1) tt
+  b-read = is₁ (2 ^ 31) (arg 1) tt x (small .sized)
 
   c-read : held w64 (x .c) ≡ x .c
-  c-read = gives₁ (2 ^ 31) x (small .sized) (arg 2) tt
+  c-read = is₁ (2 ^ 31) (arg 2) tt x (small .sized)
 
   d-read : held w64 (x .d) ≡ x .d
-  d-read = gives₁ (2 ^ 31) x (small .sized) (arg 3) tt
+  d-read = is₁ (2 ^ 31) (arg 3) tt x (small .sized)
 
   parity : {y z : ℤ} {p b : Bool} → y ≡ z → p ≡ odd y → p ≡ b → odd z ≡ b
   parity e f g = cc

@@ -20,7 +20,7 @@ second-way-requires : tie.Need-second-way-requires
 second-way-requires c κs = search needs
 
 alike-requires : tie.Need-alike-requires
-alike-requires c κs = (search (needs, first-there), search (needs, second-there))
+alike-requires c κs = (search first-there, search second-there)
 
 same-length : tie.Need-same-length
 same-length c = search needs

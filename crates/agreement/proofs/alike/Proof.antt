@@ -10,10 +10,10 @@ use Rattle.agreement.proofs.alike.Lts as lts
 use Rattle.check.proofs.same.Reads as same-reads
 
 returns : tie.Need-returns
-returns c = search (needs, first-refused)
+returns c = search first-refused
 
 returns-2 : tie.Need-returns-2
-returns-2 c = search (needs, second-refused)
+returns-2 c = search second-refused
 
 slice-aggregate-same : tie.Need-slice-aggregate-same
 slice-aggregate-same c =
@@ -31,7 +31,7 @@ same-requires : tie.Need-same-requires
 same-requires c κs = search needs
 
 returns-3 : tie.Need-returns-3
-returns-3 c = search (needs, bytes-decide)
+returns-3 c = search bytes-decide
 
 pub alike-spec : {M : Type 1} → statement M
 alike-spec =

@@ -5,7 +5,7 @@ use Rattle.agreement.proofs.second_way.Statement.{statement}
 use Rattle.agreement.proofs.second_way.Tie as tie
 
 returns : tie.Need-returns
-returns c = search (needs, stopped-before)
+returns c = search stopped-before
 
 cast-synthesise : tie.Need-cast-synthesise
 cast-synthesise c = search needs
@@ -17,7 +17,7 @@ same-length : tie.Need-same-length
 same-length c = search needs
 
 returns-2 : tie.Need-returns-2
-returns-2 c = search (needs, went-on)
+returns-2 c = search went-on
 
 pub second-way-spec : {M : Type 1} → statement M
 second-way-spec =

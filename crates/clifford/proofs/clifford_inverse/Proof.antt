@@ -11,7 +11,7 @@ inverse-requires : tie.Need-inverse-requires
 inverse-requires c κs = c .new .ensures .ranged
 
 returns : tie.Need-returns
-returns c = search (needs, inverse-job)
+returns c = search inverse-job
 
 pub clifford-inverse-spec : {M : Type 1} → statement M
 clifford-inverse-spec = tie.close (tie.spec new-requires inverse-requires returns)

@@ -14,7 +14,7 @@ product-requires : tie.Need-product-requires
 product-requires c κs = (c .before .new .ensures .ranged, c .new2 .ensures .ranged)
 
 returns : tie.Need-returns
-returns c = search (needs, product-job)
+returns c = search product-job
 
 pub clifford-product-spec : {M : Type 1} → statement M
 clifford-product-spec = tie.close (tie.spec new-requires new-requires-2 product-requires returns)

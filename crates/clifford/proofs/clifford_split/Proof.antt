@@ -11,7 +11,7 @@ decompose-coset-requires : tie.Need-decompose-coset-requires
 decompose-coset-requires c κs = c .new .ensures .ranged
 
 returns : tie.Need-returns
-returns c = search (needs, split-job)
+returns c = search split-job
 
 pub clifford-split-spec : {M : Type 1} → statement M
 clifford-split-spec = tie.close (tie.spec new-requires decompose-coset-requires returns)

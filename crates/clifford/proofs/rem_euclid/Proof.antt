@@ -6,7 +6,7 @@ use Rattle.clifford.proofs.rem_euclid.Statement.{statement}
 use Rattle.clifford.proofs.rem_euclid.Tie as tie
 
 sub-y : tie.Need-sub-y
-sub-y c = search (needs, y-fits)
+sub-y c = search y-fits
 
 cast-n : tie.Need-cast-n
 cast-n c = y-cast (c .before .args .x) (c .before .args .m) (c .before .pre .0) (c .before .fits .x) (c .if1 .taken)
@@ -18,7 +18,7 @@ sub-r : tie.Need-sub-r
 sub-r c = search needs
 
 sub-r-2 : tie.Need-sub-r-2
-sub-r-2 c = search (needs, y-few)
+sub-r-2 c = search y-few
 
 cast-result : tie.Need-cast-result
 cast-result c = search needs
@@ -33,10 +33,10 @@ cast-result-2 : tie.Need-cast-result-2
 cast-result-2 c = omega (arith, x-few (c .before .args .x) (c .before .args .m) (c .before .pre .0) (c .before .fits .x))
 
 returns : tie.Need-returns
-returns c = search (needs, y-modulo)
+returns c = search y-modulo
 
 returns-2 : tie.Need-returns-2
-returns-2 c = search (needs, x-modulo)
+returns-2 c = search x-modulo
 
 pub rem-euclid-spec : {M : Type 1} → statement M
 rem-euclid-spec =

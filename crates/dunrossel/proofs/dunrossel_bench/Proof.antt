@@ -14,7 +14,7 @@ write-requires : tie.Need-write-requires
 write-requires c κs = search needs
 
 returns : tie.Need-returns
-returns c = search (needs, bench-malformed)
+returns c = search bench-malformed
 
 slice-aggregate-answer-record : tie.Need-slice-aggregate-answer-record
 slice-aggregate-answer-record c = search needs
@@ -23,7 +23,7 @@ answer-record-requires : tie.Need-answer-record-requires
 answer-record-requires c κs = search needs
 
 returns-2 : tie.Need-returns-2
-returns-2 c = search (needs, bench-read)
+returns-2 c = search bench-read
 
 pub dunrossel-bench-spec : {M : Type 1} → statement M
 dunrossel-bench-spec =

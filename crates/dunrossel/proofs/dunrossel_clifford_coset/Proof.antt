@@ -14,7 +14,7 @@ put-coset-requires : tie.Need-put-coset-requires
 put-coset-requires c κs = search needs
 
 returns : tie.Need-returns
-returns c = search (needs, parted)
+returns c = search parted
 
 pub dunrossel-clifford-coset-spec : {M : Type 1} → statement M
 dunrossel-clifford-coset-spec =

@@ -14,7 +14,7 @@ put-clifford-requires : tie.Need-put-clifford-requires
 put-clifford-requires c κs = search needs
 
 returns : tie.Need-returns
-returns c = search (needs, inverted)
+returns c = search inverted
 
 pub dunrossel-clifford-inverse-spec : {M : Type 1} → statement M
 dunrossel-clifford-inverse-spec =

@@ -17,7 +17,7 @@ put-clifford-requires : tie.Need-put-clifford-requires
 put-clifford-requires c κs = search needs
 
 returns : tie.Need-returns
-returns c = search (needs, multiplied)
+returns c = search multiplied
 
 pub dunrossel-clifford-product-spec : {M : Type 1} → statement M
 dunrossel-clifford-product-spec =

@@ -11,7 +11,7 @@ put-ten-requires : tie.Need-put-ten-requires
 put-ten-requires c κs = search needs
 
 returns : tie.Need-returns
-returns c = search (needs, multiplies)
+returns c = search multiplies
 
 pub dunrossel-matrix-spec : {M : Type 1} → statement M
 dunrossel-matrix-spec = tie.close (tie.spec from-gates-requires put-ten-requires returns)

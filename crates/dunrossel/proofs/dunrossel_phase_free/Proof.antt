@@ -14,7 +14,7 @@ same-length : tie.Need-same-length
 same-length c = search needs
 
 returns : tie.Need-returns
-returns c = search (needs, writes)
+returns c = search writes
 
 pub dunrossel-phase-free-spec : {M : Type 1} → statement M
 dunrossel-phase-free-spec =

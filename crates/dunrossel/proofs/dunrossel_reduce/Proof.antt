@@ -17,7 +17,7 @@ put-ten-requires : tie.Need-put-ten-requires
 put-ten-requires c κs = search needs
 
 returns : tie.Need-returns
-returns c = search (needs, reduces)
+returns c = search reduces
 
 pub dunrossel-reduce-spec : {M : Type 1} → statement M
 dunrossel-reduce-spec =

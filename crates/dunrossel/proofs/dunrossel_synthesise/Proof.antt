@@ -20,7 +20,7 @@ same-length : tie.Need-same-length
 same-length c = search needs
 
 returns : tie.Need-returns
-returns c = search (needs, synthesises)
+returns c = search synthesises
 
 pub dunrossel-synthesise-spec : {M : Type 1} → statement M
 dunrossel-synthesise-spec =

@@ -17,7 +17,7 @@ put-view-requires : tie.Need-put-view-requires
 put-view-requires c κs = search needs
 
 returns : tie.Need-returns
-returns c = search (needs, views)
+returns c = search views
 
 pub dunrossel-view-spec : {M : Type 1} → statement M
 dunrossel-view-spec =

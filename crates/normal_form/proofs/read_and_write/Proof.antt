@@ -17,13 +17,13 @@ enum-known-r : tie.Need-enum-known-r
 enum-known-r c = search needs
 
 write-requires : tie.Need-write-requires
-write-requires c κs = search (needs, readable, count-most)
+write-requires c κs = search (readable, count-most)
 
 same-length : tie.Need-same-length
 same-length c = search needs
 
 returns : tie.Need-returns
-returns c = search (needs, refused-outside)
+returns c = search refused-outside
 
 same-length-2 : tie.Need-same-length-2
 same-length-2 c = search needs
@@ -32,7 +32,7 @@ same-length-3 : tie.Need-same-length-3
 same-length-3 c = search needs
 
 returns-2 : tie.Need-returns-2
-returns-2 c = search (needs, answered-by)
+returns-2 c = search answered-by
 
 pub read-and-write-spec : {M : Type 1} → statement M
 read-and-write-spec =

@@ -12,25 +12,25 @@ size-requires : tie.Need-size-requires
 size-requires c κs = search needs
 
 add-n : tie.Need-add-n
-add-n c = search (needs, size-fits)
+add-n c = search size-fits
 
 refused-requires : tie.Need-refused-requires
 refused-requires c κs = search needs
 
 returns : tie.Need-returns
-returns c = search (needs, no-room-for)
+returns c = search no-room-for
 
 put-syllables-requires : tie.Need-put-syllables-requires
-put-syllables-requires c κs = search (needs, count-within, syllables-room)
+put-syllables-requires c κs = search (count-within, syllables-room)
 
 put-ending-requires : tie.Need-put-ending-requires
-put-ending-requires c κs = search (needs, ending-room)
+put-ending-requires c κs = search ending-room
 
 same-length : tie.Need-same-length
 same-length c = search needs
 
 returns-2 : tie.Need-returns-2
-returns-2 c = search (needs, written-for)
+returns-2 c = search written-for
 
 pub write-spec : {M : Type 1} → statement M
 write-spec =

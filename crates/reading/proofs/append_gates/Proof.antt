@@ -15,7 +15,7 @@ same-length : tie.Need-same-length
 same-length c = search needs
 
 returns : tie.Need-returns
-returns c = search (needs, meets)
+returns c = search meets
 
 cast-push : tie.Need-cast-push
 cast-push c = search needs
@@ -30,7 +30,7 @@ same-length-2 : tie.Need-same-length-2
 same-length-2 c = search needs
 
 returns-2 : tie.Need-returns-2
-returns-2 c = search (needs, adds)
+returns-2 c = search adds
 
 pub append-gates-spec : {M : Type 1} → statement M
 append-gates-spec =

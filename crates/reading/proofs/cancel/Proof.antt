@@ -14,7 +14,7 @@ same-length : tie.Need-same-length
 same-length c = search needs
 
 returns : tie.Need-returns
-returns c = search (needs, cancel-none)
+returns c = search cancel-none
 
 sub-last : tie.Need-sub-last
 sub-last c = search needs
@@ -36,7 +36,7 @@ same-length-2 : tie.Need-same-length-2
 same-length-2 c = search needs
 
 returns-2 : tie.Need-returns-2
-returns-2 c = search (needs, cancel-some)
+returns-2 c = search cancel-some
 
 pub cancel-spec : {M : Type 1} → statement M
 cancel-spec =

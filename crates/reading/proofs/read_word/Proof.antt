@@ -14,7 +14,7 @@ abbrev μ-loop : tie.MeasureT-loop
 μ-loop table items₀ word r₀ i₀ items r i = length word - i
 
 loop-holds : tie.Need-loop-holds Inv-loop μ-loop
-loop-holds c = search (needs, upto-none)
+loop-holds c = search upto-none
 
 add-loop : tie.Need-add-loop Inv-loop μ-loop
 add-loop c = omega arith
@@ -86,7 +86,7 @@ same-length-3 : tie.Need-same-length-3 Inv-loop μ-loop
 same-length-3 c = search needs
 
 returns-3 : tie.Need-returns-3 Inv-loop μ-loop
-returns-3 c = search (needs, first-outside)
+returns-3 c = search first-outside
 
 append-gates-requires-2 : tie.Need-append-gates-requires-2 Inv-loop μ-loop
 append-gates-requires-2 c κs =
@@ -98,13 +98,13 @@ same-length-4 : tie.Need-same-length-4 Inv-loop μ-loop
 same-length-4 c = search needs
 
 returns-4 : tie.Need-returns-4 Inv-loop μ-loop
-returns-4 c = search (needs, read-last)
+returns-4 c = search read-last
 
 same-length-5 : tie.Need-same-length-5 Inv-loop μ-loop
 same-length-5 c = search needs
 
 returns-5 : tie.Need-returns-5 Inv-loop μ-loop
-returns-5 c = search (needs, read-all)
+returns-5 c = search read-all
 
 pub read-word-spec : {M : Type 1} → statement M
 read-word-spec =

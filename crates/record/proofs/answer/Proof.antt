@@ -9,19 +9,19 @@ slice-aggregate-number-line : tie.Need-slice-aggregate-number-line
 slice-aggregate-number-line c = search needs
 
 number-line-requires : tie.Need-number-line-requires
-number-line-requires c κs = search (needs, one-room)
+number-line-requires c κs = search one-room
 
 slice-aggregate-bytes-line : tie.Need-slice-aggregate-bytes-line
 slice-aggregate-bytes-line c = search needs
 
 bytes-line-requires : tie.Need-bytes-line-requires
-bytes-line-requires c κs = search (needs, two-room)
+bytes-line-requires c κs = search two-room
 
 slice-aggregate-number-line-2 : tie.Need-slice-aggregate-number-line-2
 slice-aggregate-number-line-2 c = search needs
 
 number-line-requires-2 : tie.Need-number-line-requires-2
-number-line-requires-2 c κs = search (needs, three-room)
+number-line-requires-2 c κs = search three-room
 
 slice-aggregate-number-line-3 : tie.Need-slice-aggregate-number-line-3
 slice-aggregate-number-line-3 c = search needs

@@ -18,7 +18,7 @@ refused-requires : tie.Need-refused-requires
 refused-requires c κs = search needs
 
 returns : tie.Need-returns
-returns c = search (needs, no-k)
+returns c = search no-k
 
 n-at-requires : tie.Need-n-at-requires
 n-at-requires c κs = search needs
@@ -33,7 +33,7 @@ refused-requires-2 : tie.Need-refused-requires-2
 refused-requires-2 c κs = search needs
 
 returns-2 : tie.Need-returns-2
-returns-2 c = search (needs, no-n)
+returns-2 c = search no-n
 
 ring-at-requires : tie.Need-ring-at-requires
 ring-at-requires c κs = search needs
@@ -48,7 +48,7 @@ refused-requires-3 : tie.Need-refused-requires-3
 refused-requires-3 c κs = search needs
 
 returns-3 : tie.Need-returns-3
-returns-3 c = search (needs, no-z)
+returns-3 c = search no-z
 
 ring-at-requires-2 : tie.Need-ring-at-requires-2
 ring-at-requires-2 c κs = search needs
@@ -63,7 +63,7 @@ refused-requires-4 : tie.Need-refused-requires-4
 refused-requires-4 c κs = search needs
 
 returns-4 : tie.Need-returns-4
-returns-4 c = search (needs, no-w)
+returns-4 c = search no-w
 
 refused-requires-5 : tie.Need-refused-requires-5
 refused-requires-5 c κs = search needs
@@ -73,13 +73,13 @@ returns-5 c =
     let z = c .before .before .before .before .before in
     let n = z .before .before .before .before .before in
     let k = n .before .before .before .before .before in
-    search (needs, byte-behind, k .k .given .1, k .before .before .k-at .ensures)
+    search (byte-behind, k .k .given .1, k .before .before .k-at .ensures)
 
 cast-n : tie.Need-cast-n
-cast-n c = search (needs, n-fits)
+cast-n c = search n-fits
 
 returns-6 : tie.Need-returns-6
-returns-6 c = search (needs, all-read)
+returns-6 c = search all-read
 
 pub read-spec : {M : Type 1} → statement M
 read-spec =

@@ -10,7 +10,7 @@ check-requires : tie.Need-check-requires
 check-requires c κs = search needs
 
 returns : tie.Need-returns
-returns c = search (needs, synthesise-refused)
+returns c = search synthesise-refused
 
 cast-t10 : tie.Need-cast-t10
 cast-t10 c = taken-cast (c .before .before .before .fits .k) (c .before .check .ensures) (search needs)
@@ -29,7 +29,7 @@ same-length : tie.Need-same-length
 same-length c = search needs
 
 returns-2 : tie.Need-returns-2
-returns-2 c = search (needs, synthesise-answered)
+returns-2 c = search synthesise-answered
 
 pub synthesise-spec : {M : Type 1} → statement M
 synthesise-spec =

@@ -6,22 +6,22 @@ use Rattle.unitary.proofs.check.Statement.{statement}
 use Rattle.unitary.proofs.check.Tie as tie
 
 returns : tie.Need-returns
-returns c = search (needs, refused-low)
+returns c = search refused-low
 
 returns-2 : tie.Need-returns-2
-returns-2 c = search (needs, refused-high)
+returns-2 c = search refused-high
 
 within-limits-requires : tie.Need-within-limits-requires
 within-limits-requires c κs = search needs
 
 returns-3 : tie.Need-returns-3
-returns-3 c = search (needs, refused-z)
+returns-3 c = search refused-z
 
 within-limits-requires-2 : tie.Need-within-limits-requires-2
 within-limits-requires-2 c κs = search needs
 
 returns-4 : tie.Need-returns-4
-returns-4 c = search (needs, refused-w)
+returns-4 c = search refused-w
 
 cast-is-unitary : tie.Need-cast-is-unitary
 cast-is-unitary c = let d = c .before .before .before in cast-inside (d .before .before .before .args .k) (search needs) (search needs) (search needs)
@@ -35,10 +35,10 @@ is-unitary-requires c κs =
     )
 
 returns-5 : tie.Need-returns-5
-returns-5 c = search (needs, refused-sums)
+returns-5 c = search refused-sums
 
 returns-6 : tie.Need-returns-6
-returns-6 c = search (needs, all-passed)
+returns-6 c = search all-passed
 
 pub check-spec : {M : Type 1} → statement M
 check-spec =

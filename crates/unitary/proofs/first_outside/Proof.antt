@@ -1,7 +1,6 @@
 -- `unitary::first_outside` meets its contract. The invariant: every byte passed is a letter; the measure is what is left of the length.
 use Prim.Native.Nat.{ℕ, _≤_, _<_, _-_}
 use native.Mathlib.Omega.{arith}
-use borrow.Author.Needs.{needs}
 use lib.ListN.{length, getD}
 use Rattle.exact.specs.Meaning.Word.{In, job2}
 use Rattle.unitary.specs.Letters.{scanned-more, scanned-stop, scanned-end}
@@ -24,7 +23,7 @@ is-letter-requires : tie.Need-is-letter-requires Inv-loop μ-loop
 is-letter-requires c κs = tt
 
 returns : tie.Need-returns Inv-loop μ-loop
-returns c = search (needs, scanned-stop)
+returns c = search scanned-stop
 
 add-i : tie.Need-add-i Inv-loop μ-loop
 add-i c = omega arith
@@ -33,10 +32,10 @@ loop-less : tie.Need-loop-less Inv-loop μ-loop
 loop-less c = omega arith
 
 loop-again : tie.Need-loop-again Inv-loop μ-loop
-loop-again c = (omega arith, search (needs, scanned-more))
+loop-again c = (omega arith, search scanned-more)
 
 returns-2 : tie.Need-returns-2 Inv-loop μ-loop
-returns-2 c = search (needs, scanned-end)
+returns-2 c = search scanned-end
 
 pub first-outside-spec : {M : Type 1} → statement M
 first-outside-spec =

@@ -5,7 +5,6 @@ use native.Mathlib.Omega.{arith}
 use lib.ListN.{length}
 use Rattle.exact.specs.Cases.Letters.{lettersOf}
 use Rattle.unitary.specs.Reading.{Read, read-start, step-more, refused-long, refused-letter, refused-deep, read-whole}
-use borrow.Author.Needs.{needs}
 use Rattle.unitary.proofs.from_gates.Statement.{statement}
 use Rattle.unitary.proofs.from_gates.Tie as tie
 
@@ -19,7 +18,7 @@ stopped-requires : tie.Need-stopped-requires Inv-loop μ-loop
 stopped-requires c κs = tt
 
 returns : tie.Need-returns Inv-loop μ-loop
-returns c = search (needs, refused-long)
+returns c = search refused-long
 
 first-outside-requires : tie.Need-first-outside-requires Inv-loop μ-loop
 first-outside-requires c κs = tt
@@ -28,13 +27,13 @@ stopped-requires-2 : tie.Need-stopped-requires-2 Inv-loop μ-loop
 stopped-requires-2 c κs = tt
 
 returns-2 : tie.Need-returns-2 Inv-loop μ-loop
-returns-2 c = search (needs, refused-letter)
+returns-2 c = search refused-letter
 
 identity-requires : tie.Need-identity-requires Inv-loop μ-loop
 identity-requires c κs = tt
 
 loop-holds : tie.Need-loop-holds Inv-loop μ-loop
-loop-holds c = (omega arith, search (needs, read-start))
+loop-holds c = (omega arith, search read-start)
 
 sub-at : tie.Need-sub-at Inv-loop μ-loop
 sub-at c = omega arith
@@ -49,16 +48,16 @@ stopped-requires-3 : tie.Need-stopped-requires-3 Inv-loop μ-loop
 stopped-requires-3 c κs = tt
 
 returns-3 : tie.Need-returns-3 Inv-loop μ-loop
-returns-3 c = search (needs, refused-deep)
+returns-3 c = search refused-deep
 
 loop-less : tie.Need-loop-less Inv-loop μ-loop
 loop-less c = omega arith
 
 loop-again : tie.Need-loop-again Inv-loop μ-loop
-loop-again c = (omega arith, search (needs, step-more))
+loop-again c = (omega arith, search step-more)
 
 returns-4 : tie.Need-returns-4 Inv-loop μ-loop
-returns-4 c = search (needs, read-whole)
+returns-4 c = search read-whole
 
 pub from-gates-spec : {M : Type 1} → statement M
 from-gates-spec =

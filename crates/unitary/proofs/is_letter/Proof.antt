@@ -21,7 +21,7 @@ returns-5 : tie.Need-returns-5
 returns-5 c = letter-yes W _ (search needs)
 
 returns-6 : tie.Need-returns-6
-returns-6 c = search (needs, letter-last)
+returns-6 c = search letter-last
 
 pub is-letter-spec : {M : Type 1} → statement M
 is-letter-spec = tie.close (tie.spec returns returns-2 returns-3 returns-4 returns-5 returns-6)

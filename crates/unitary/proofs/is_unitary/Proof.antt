@@ -27,7 +27,7 @@ sub-if1 c =
     (c .squares2 .ensures)
 
 returns : tie.Need-returns
-returns c = refutes (search (needs, squares-differ))
+returns c = refutes (search squares-differ)
 
 crosses-requires : tie.Need-crosses-requires
 crosses-requires c κs = search needs

@@ -11,7 +11,7 @@ nothing-requires : tie.Need-nothing-requires
 nothing-requires c κs = search needs
 
 returns : tie.Need-returns
-returns c = search (needs, reduce-refused)
+returns c = search reduce-refused
 
 cast-t10 : tie.Need-cast-t10
 cast-t10 c = taken-cast (c .before .before .fits .k) (c .before .check .ensures) (search needs)
@@ -20,7 +20,7 @@ reduce-denomexp-requires : tie.Need-reduce-denomexp-requires
 reduce-denomexp-requires c κs = taken-small (c .before .before .fits .k) (c .before .check .ensures) (search needs)
 
 returns-2 : tie.Need-returns-2
-returns-2 c = search (needs, reduce-taken)
+returns-2 c = search reduce-taken
 
 pub reduce-spec : {M : Type 1} → statement M
 reduce-spec =

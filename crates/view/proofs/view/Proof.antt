@@ -11,7 +11,7 @@ nils-requires : tie.Need-nils-requires
 nils-requires c κs = search needs
 
 returns : tie.Need-returns
-returns c = search (needs, view-refused)
+returns c = search view-refused
 
 cast-entries : tie.Need-cast-entries
 cast-entries c =
@@ -24,7 +24,7 @@ entries-requires c κs =
     view-unitary (a .args .k) (a .args .n) (a .args .z) (a .args .w) (a .fits .k) _ (c .before .check .ensures) (search needs)
 
 returns-2 : tie.Need-returns-2
-returns-2 c = search (needs, view-taken)
+returns-2 c = search view-taken
 
 pub view-spec : {M : Type 1} → statement M
 view-spec =

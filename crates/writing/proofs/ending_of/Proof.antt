@@ -25,7 +25,7 @@ wide-requires-3 : tie.Need-wide-requires-3
 wide-requires-3 c κs = search needs
 
 few-parts : (c : tie.After-esses) → Few (c .before .before .split .result)
-few-parts c = search (needs, split-few, fits-ranged)
+few-parts c = search (split-few, fits-ranged)
 
 add-one-if-none : tie.Need-add-one-if-none
 add-one-if-none c = omega (arith, few-parts (c .before .before .before .before))
@@ -46,7 +46,7 @@ kept-requires : tie.Need-kept-requires
 kept-requires c κs = search needs
 
 returns : tie.Need-returns
-returns c = search (needs, ended, fits-ranged)
+returns c = search (ended, fits-ranged)
 
 pub ending-of-spec : {M : Type 1} → statement M
 ending-of-spec =

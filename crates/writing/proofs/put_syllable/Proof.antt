@@ -38,25 +38,25 @@ put-letter-requires-6 c κs =
     omega (arith, spelt-size (the-first .before .before .before .before .before .enum-told4 .given .1))
 
 returns : tie.Need-returns
-returns c = search (needs, spelt-I)
+returns c = search spelt-I
 
 same-length : tie.Need-same-length
 same-length c = search needs
 
 returns-2 : tie.Need-returns-2
-returns-2 c = search (needs, spelt-T)
+returns-2 c = search spelt-T
 
 same-length-2 : tie.Need-same-length-2
 same-length-2 c = search needs
 
 returns-3 : tie.Need-returns-3
-returns-3 c = search (needs, spelt-HT)
+returns-3 c = search spelt-HT
 
 same-length-3 : tie.Need-same-length-3
 same-length-3 c = search needs
 
 returns-4 : tie.Need-returns-4
-returns-4 c = search (needs, spelt-SHT)
+returns-4 c = search spelt-SHT
 
 pub put-syllable-spec : {M : Type 1} → statement M
 put-syllable-spec =

@@ -29,7 +29,7 @@ of-requires : tie.Need-of-requires Inv-loop μ-loop
 of-requires c κs = tt
 
 put-syllable-requires : tie.Need-put-syllable-requires Inv-loop μ-loop
-put-syllable-requires c κs = search (needs, spelt-room, one-room)
+put-syllable-requires c κs = search (spelt-room, one-room)
 
 add-k : tie.Need-add-k Inv-loop μ-loop
 add-k c = omega arith
@@ -38,7 +38,7 @@ loop-less : tie.Need-loop-less Inv-loop μ-loop
 loop-less c = omega arith
 
 loop-again : tie.Need-loop-again Inv-loop μ-loop
-loop-again c = (omega arith, search needs, search (needs, one-more))
+loop-again c = (omega arith, search needs, search one-more)
 
 same-length : tie.Need-same-length Inv-loop μ-loop
 same-length c = search needs

@@ -15,7 +15,7 @@ abbrev μ-loop : tie.MeasureT-loop
 μ-loop buf₀ at letter n j₀ buf j = n - j
 
 loop-holds : tie.Need-loop-holds Inv-loop μ-loop
-loop-holds c = search (needs, putting-none, length-replicate)
+loop-holds c = search (putting-none, length-replicate)
 
 add-buf : tie.Need-add-buf Inv-loop μ-loop
 add-buf c = omega arith

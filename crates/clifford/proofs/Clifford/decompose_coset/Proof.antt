@@ -17,13 +17,13 @@ product-requires-2 : tie.Need-product-requires-2
 product-requires-2 c κs = (rw (c .inverse2 .ensures) (inv-ranged cliffordSH), c .before .before .pre)
 
 returns : tie.Need-returns
-returns c = search (needs, split-none)
+returns c = search split-none
 
 returns-2 : tie.Need-returns-2
-returns-2 c = search (needs, split-H)
+returns-2 c = search split-H
 
 returns-3 : tie.Need-returns-3
-returns-3 c = search (needs, split-SH)
+returns-3 c = search split-SH
 
 pub decompose-coset-spec : {M : Type 1} → statement M
 decompose-coset-spec =

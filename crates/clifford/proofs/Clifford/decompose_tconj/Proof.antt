@@ -23,7 +23,7 @@ ranged-requires : tie.Need-ranged-requires
 ranged-requires c κs = search needs
 
 returns : tie.Need-returns
-returns c = search (needs, tconj-by)
+returns c = search tconj-by
 
 pub decompose-tconj-spec : {M : Type 1} → statement M
 decompose-tconj-spec =

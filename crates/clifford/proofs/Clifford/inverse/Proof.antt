@@ -29,7 +29,7 @@ ranged-requires : tie.Need-ranged-requires
 ranged-requires c κs = search needs
 
 returns : tie.Need-returns
-returns c = search (needs, inv-by)
+returns c = search inv-by
 
 pub inverse-spec : {M : Type 1} → statement M
 inverse-spec =

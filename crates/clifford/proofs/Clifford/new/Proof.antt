@@ -17,7 +17,7 @@ rem-euclid-requires-4 : tie.Need-rem-euclid-requires-4
 rem-euclid-requires-4 c κs = search needs
 
 returns : tie.Need-returns
-returns c = search (needs, reduced-by)
+returns c = search reduced-by
 
 pub new-spec : {M : Type 1} → statement M
 new-spec =

@@ -57,7 +57,7 @@ ranged-requires : tie.Need-ranged-requires
 ranged-requires c κs = search needs
 
 returns : tie.Need-returns
-returns c = let rows = the-rows (c .before .before .before .before .before) in search (needs, mul-by)
+returns c = let rows = the-rows (c .before .before .before .before .before) in search mul-by
 
 pub product-spec : {M : Type 1} → statement M
 product-spec =

@@ -11,7 +11,7 @@ returns-2 : tie.Need-returns-2
 returns-2 c = search needs
 
 returns-3 : tie.Need-returns-3
-returns-3 c = search (needs, axis-last)
+returns-3 c = search axis-last
 
 pub axis-at-spec : {M : Type 1} → statement M
 axis-at-spec = tie.close (tie.spec returns returns-2 returns-3)

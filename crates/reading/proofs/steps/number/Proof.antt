@@ -5,10 +5,10 @@ use Rattle.reading.proofs.steps.number.Statement.{statement}
 use Rattle.reading.proofs.steps.number.Tie as tie
 
 returns : tie.Need-returns
-returns c = search (needs, number-low)
+returns c = search number-low
 
 returns-2 : tie.Need-returns-2
-returns-2 c = search (needs, number-high)
+returns-2 c = search number-high
 
 cast-result : tie.Need-cast-result
 cast-result c = search needs
@@ -20,7 +20,7 @@ shared-slice-read-result : tie.Need-shared-slice-read-result
 shared-slice-read-result c = search needs
 
 returns-3 : tie.Need-returns-3
-returns-3 c = search (needs, number-in)
+returns-3 c = search number-in
 
 pub number-spec : {M : Type 1} → statement M
 number-spec =

@@ -16,7 +16,7 @@ abbrev μ-loop : tie.MeasureT-loop
 μ-loop s at end most d value₀ i₀ value i = length s - i
 
 returns : tie.Need-returns Inv-loop μ-loop
-returns c = search (needs, natural-past)
+returns c = search natural-past
 
 shared-slice-read-digit : tie.Need-shared-slice-read-digit Inv-loop μ-loop
 shared-slice-read-digit c = search needs
@@ -31,13 +31,13 @@ enum-told : tie.Need-enum-told Inv-loop μ-loop
 enum-told c = search needs
 
 returns-2 : tie.Need-returns-2 Inv-loop μ-loop
-returns-2 c = search (needs, natural-first)
+returns-2 c = search natural-first
 
 add-i : tie.Need-add-i Inv-loop μ-loop
 add-i c = omega arith
 
 loop-holds : tie.Need-loop-holds Inv-loop μ-loop
-loop-holds c = search (needs, reading-first)
+loop-holds c = search reading-first
 
 shared-slice-read-b : tie.Need-shared-slice-read-b Inv-loop μ-loop
 shared-slice-read-b c = search needs
@@ -46,7 +46,7 @@ add-t19 : tie.Need-add-t19 Inv-loop μ-loop
 add-t19 c = omega arith
 
 returns-3 : tie.Need-returns-3 Inv-loop μ-loop
-returns-3 c = search (needs, reading-found)
+returns-3 c = search reading-found
 
 push-requires : tie.Need-push-requires Inv-loop μ-loop
 push-requires c κs = tt
@@ -58,7 +58,7 @@ enum-told-2 : tie.Need-enum-told-2 Inv-loop μ-loop
 enum-told-2 c = search needs
 
 returns-4 : tie.Need-returns-4 Inv-loop μ-loop
-returns-4 c = search (needs, reading-stop)
+returns-4 c = search reading-stop
 
 add-i-2 : tie.Need-add-i-2 Inv-loop μ-loop
 add-i-2 c = omega arith
@@ -67,10 +67,10 @@ loop-less : tie.Need-loop-less Inv-loop μ-loop
 loop-less c = omega arith
 
 loop-again : tie.Need-loop-again Inv-loop μ-loop
-loop-again c = search (needs, reading-more)
+loop-again c = search reading-more
 
 returns-5 : tie.Need-returns-5 Inv-loop μ-loop
-returns-5 c = search (needs, reading-end)
+returns-5 c = search reading-end
 
 pub natural-at-spec : {M : Type 1} → statement M
 natural-at-spec =

@@ -14,22 +14,22 @@ enum-told : tie.Need-enum-told
 enum-told c = search needs
 
 returns : tie.Need-returns
-returns c = search (needs, negative-none)
+returns c = search negative-none
 
 returns-2 : tie.Need-returns-2
-returns-2 c = search (needs, negative-zero)
+returns-2 c = search negative-zero
 
 sub-less : tie.Need-sub-less
 sub-less c = search needs
 
 cast-less : tie.Need-cast-less
-cast-less c = search (needs, less-fits)
+cast-less c = search less-fits
 
 sub-value : tie.Need-sub-value
-sub-value c = search (needs, negative-fits)
+sub-value c = search negative-fits
 
 returns-3 : tie.Need-returns-3
-returns-3 c = search (needs, negative-found)
+returns-3 c = search negative-found
 
 pub negative-at-spec : {M : Type 1} → statement M
 negative-at-spec =

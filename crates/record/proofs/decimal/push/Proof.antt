@@ -17,7 +17,7 @@ enum-told : tie.Need-enum-told
 enum-told c = search needs
 
 returns-2 : tie.Need-returns-2
-returns-2 c = search (needs, push-stop)
+returns-2 c = search push-stop
 
 returns-3 : tie.Need-returns-3
 returns-3 c = search needs
@@ -29,13 +29,13 @@ sub-if3 : tie.Need-sub-if3
 sub-if3 c = search needs
 
 returns-4 : tie.Need-returns-4
-returns-4 c = search (needs, push-over)
+returns-4 c = search push-over
 
 add-t8 : tie.Need-add-t8
 add-t8 c = search needs
 
 returns-5 : tie.Need-returns-5
-returns-5 c = search (needs, push-more)
+returns-5 c = search push-more
 
 pub push-spec : {M : Type 1} → statement M
 push-spec =

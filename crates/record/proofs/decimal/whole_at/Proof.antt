@@ -5,7 +5,7 @@ use Rattle.record.proofs.decimal.whole_at.Statement.{statement}
 use Rattle.record.proofs.decimal.whole_at.Tie as tie
 
 returns : tie.Need-returns
-returns c = search (needs, whole-past)
+returns c = search whole-past
 
 shared-slice-read-if2 : tie.Need-shared-slice-read-if2
 shared-slice-read-if2 c = search needs
@@ -17,7 +17,7 @@ negative-at-requires : tie.Need-negative-at-requires
 negative-at-requires c κs = search needs
 
 returns-2 : tie.Need-returns-2
-returns-2 c = search (needs, minus-there)
+returns-2 c = search minus-there
 
 positive-at-requires : tie.Need-positive-at-requires
 positive-at-requires c κs = search needs

@@ -14,7 +14,7 @@ enum-told : tie.Need-enum-told
 enum-told c = search needs
 
 returns : tie.Need-returns
-returns c = search (needs, no-a)
+returns c = search no-a
 
 whole-at-requires-2 : tie.Need-whole-at-requires-2
 whole-at-requires-2 c κs = search needs
@@ -26,7 +26,7 @@ enum-told-2 : tie.Need-enum-told-2
 enum-told-2 c = search needs
 
 returns-2 : tie.Need-returns-2
-returns-2 c = search (needs, no-b)
+returns-2 c = search no-b
 
 whole-at-requires-3 : tie.Need-whole-at-requires-3
 whole-at-requires-3 c κs = search needs
@@ -38,7 +38,7 @@ enum-told-3 : tie.Need-enum-told-3
 enum-told-3 c = search needs
 
 returns-3 : tie.Need-returns-3
-returns-3 c = search (needs, no-c)
+returns-3 c = search no-c
 
 whole-at-requires-4 : tie.Need-whole-at-requires-4
 whole-at-requires-4 c κs = search needs
@@ -56,10 +56,10 @@ returns-4 c =
     let the-a = the-b .before .before .before .before in
     let first = the-a .before .before .whole-at in
     let second = the-b .before .before .whole-at2 in
-    search (needs, no-d, first .ensures, the-a .a .given .1, second .ensures, the-b .b .given .1)
+    search (no-d, first .ensures, the-a .a .given .1, second .ensures, the-b .b .given .1)
 
 returns-5 : tie.Need-returns-5
-returns-5 c = search (needs, four-found)
+returns-5 c = search four-found
 
 pub four-at-spec : {M : Type 1} → statement M
 four-at-spec =

@@ -14,13 +14,13 @@ enum-told : tie.Need-enum-told
 enum-told c = search needs
 
 returns : tie.Need-returns
-returns c = search (needs, no-k-name)
+returns c = search no-k-name
 
 whole-at-requires : tie.Need-whole-at-requires
 whole-at-requires c κs = search needs
 
 returns-2 : tie.Need-returns-2
-returns-2 c = search (needs, k-is)
+returns-2 c = search k-is
 
 pub k-at-spec : {M : Type 1} → statement M
 k-at-spec =

@@ -14,13 +14,13 @@ enum-told : tie.Need-enum-told
 enum-told c = search needs
 
 returns : tie.Need-returns
-returns c = search (needs, no-n-name)
+returns c = search no-n-name
 
 natural-at-requires : tie.Need-natural-at-requires
 natural-at-requires c κs = search needs
 
 returns-2 : tie.Need-returns-2
-returns-2 c = search (needs, n-is)
+returns-2 c = search n-is
 
 pub n-at-spec : {M : Type 1} → statement M
 n-at-spec =

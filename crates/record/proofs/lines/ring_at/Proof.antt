@@ -14,13 +14,13 @@ enum-told : tie.Need-enum-told
 enum-told c = search needs
 
 returns : tie.Need-returns
-returns c = search (needs, no-ring-name)
+returns c = search no-ring-name
 
 four-at-requires : tie.Need-four-at-requires
 four-at-requires c κs = search needs
 
 returns-2 : tie.Need-returns-2
-returns-2 c = search (needs, ring-is)
+returns-2 c = search ring-is
 
 pub ring-at-spec : {M : Type 1} → statement M
 ring-at-spec =

@@ -1,7 +1,6 @@
 -- The proof of the cycle of calls {text::number}. The measure is the number. The tenth's digits and the last are the number's.
 -- Assumes nothing.
 use native.Mathlib.Omega.{arith}
-use borrow.Author.Needs.{needs}
 use lib.ListN.{length-set}
 use Rattle.record.specs.Write.{number-one, number-more, length-one, length-more, number-room, number-end, written-length}
 use Prim.Native.Nat.{ℕ, _<_}
@@ -61,7 +60,7 @@ number-returns : (t : ℕ) → number-lts.Need-returns (
   number-below t,
   number.Post,
 ) (number-at t) number.Post
-number-returns t c = search (needs, number-one)
+number-returns t c = search number-one
 
 number-number-requires : (t : ℕ) → number-lts.Need-number-requires (
   digit-of-reads.Asked,
@@ -86,7 +85,7 @@ number-slice-write-out-2 : (t : ℕ) → number-lts.Need-slice-write-out-2 (
   number-below t,
   number.Post,
 ) (number-at t) number.Post
-number-slice-write-out-2 t c = search (needs, number-room)
+number-slice-write-out-2 t c = search number-room
 
 number-add-result-2 : (t : ℕ) → number-lts.Need-add-result-2 (
   digit-of-reads.Asked,
@@ -94,7 +93,7 @@ number-add-result-2 : (t : ℕ) → number-lts.Need-add-result-2 (
   number-below t,
   number.Post,
 ) (number-at t) number.Post
-number-add-result-2 t c = search (needs, number-end)
+number-add-result-2 t c = search number-end
 
 number-same-length-2 : (t : ℕ) → number-lts.Need-same-length-2 (
   digit-of-reads.Asked,
@@ -110,7 +109,7 @@ number-returns-2 : (t : ℕ) → number-lts.Need-returns-2 (
   number-below t,
   number.Post,
 ) (number-at t) number.Post
-number-returns-2 t c = search (needs, number-more)
+number-returns-2 t c = search number-more
 
 pub +number-spec : {M : Type 1} → statement M
 +number-spec = close μ-number λ t. number-lts.spec (

@@ -5,22 +5,22 @@ use Rattle.record.proofs.text.bytes_line.Statement.{statement}
 use Rattle.record.proofs.text.bytes_line.Tie as tie
 
 put-requires : tie.Need-put-requires
-put-requires c κs = search (needs, name-room)
+put-requires c κs = search name-room
 
 put-requires-2 : tie.Need-put-requires-2
-put-requires-2 c κs = search (needs, value-room)
+put-requires-2 c κs = search value-room
 
 slice-aggregate-put : tie.Need-slice-aggregate-put
 slice-aggregate-put c = search needs
 
 put-requires-3 : tie.Need-put-requires-3
-put-requires-3 c κs = search (needs, end-room)
+put-requires-3 c κs = search end-room
 
 same-length : tie.Need-same-length
 same-length c = search needs
 
 returns : tie.Need-returns
-returns c = search (needs, line-written)
+returns c = search line-written
 
 pub bytes-line-spec : {M : Type 1} → statement M
 bytes-line-spec =

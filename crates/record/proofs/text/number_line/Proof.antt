@@ -5,22 +5,22 @@ use Rattle.record.proofs.text.number_line.Statement.{statement}
 use Rattle.record.proofs.text.number_line.Tie as tie
 
 put-requires : tie.Need-put-requires
-put-requires c κs = search (needs, name-room)
+put-requires c κs = search name-room
 
 number-requires : tie.Need-number-requires
-number-requires c κs = search (needs, value-room)
+number-requires c κs = search value-room
 
 slice-aggregate-put : tie.Need-slice-aggregate-put
 slice-aggregate-put c = search needs
 
 put-requires-2 : tie.Need-put-requires-2
-put-requires-2 c κs = search (needs, end-room)
+put-requires-2 c κs = search end-room
 
 same-length : tie.Need-same-length
 same-length c = search needs
 
 returns : tie.Need-returns
-returns c = search (needs, line-written)
+returns c = search line-written
 
 pub number-line-spec : {M : Type 1} → statement M
 number-line-spec =

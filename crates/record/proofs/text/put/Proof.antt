@@ -1,7 +1,6 @@
 -- `text::put` meets its contract. The loop's invariant: the first `i` bytes are in place. Assumes nothing.
 use Prim.Native.Nat.{_-_}
 use native.Mathlib.Omega.{arith}
-use borrow.Author.Needs.{needs}
 use lib.ListN.{length}
 use Rattle.record.specs.Write.{Putting, putting-none, putting-more, putting-all, written-length}
 use Rattle.record.proofs.text.put.Statement.{statement}
@@ -14,7 +13,7 @@ abbrev μ-loop : tie.MeasureT-loop
 μ-loop out₀ at src i₀ out i = length src - i
 
 loop-holds : tie.Need-loop-holds Inv-loop μ-loop
-loop-holds c = search (needs, putting-none)
+loop-holds c = search putting-none
 
 shared-slice-read-out : tie.Need-shared-slice-read-out Inv-loop μ-loop
 shared-slice-read-out c = omega arith
@@ -32,7 +31,7 @@ loop-less : tie.Need-loop-less Inv-loop μ-loop
 loop-less c = omega arith
 
 loop-again : tie.Need-loop-again Inv-loop μ-loop
-loop-again c = search (needs, putting-more)
+loop-again c = search putting-more
 
 add-result : tie.Need-add-result Inv-loop μ-loop
 add-result c = omega arith
@@ -41,7 +40,7 @@ same-length : tie.Need-same-length Inv-loop μ-loop
 same-length c = written-length (c .before .loop .inv .done)
 
 returns : tie.Need-returns Inv-loop μ-loop
-returns c = search (needs, putting-all)
+returns c = search putting-all
 
 pub put-spec : {M : Type 1} → statement M
 put-spec =

@@ -8,16 +8,16 @@ use Rattle.ring.proofs.ZOmega.mul_by_inv_sqrt2.Statement.{statement}
 use Rattle.ring.proofs.ZOmega.mul_by_inv_sqrt2.Tie as tie
 
 sub-t6 : tie.Need-sub-t6
-sub-t6 c = search (needs, fits₁ (2 ^ 31) (arg 1 ∸ arg 3) tt)
+sub-t6 c = search (fits₁ (2 ^ 31) (arg 1 ∸ arg 3) tt)
 
 add-t8 : tie.Need-add-t8
-add-t8 c = search (needs, fits₁ (2 ^ 31) (arg 2 ∔ arg 0) tt)
+add-t8 c = search (fits₁ (2 ^ 31) (arg 2 ∔ arg 0) tt)
 
 add-t10 : tie.Need-add-t10
-add-t10 c = search (needs, fits₁ (2 ^ 31) (arg 1 ∔ arg 3) tt)
+add-t10 c = search (fits₁ (2 ^ 31) (arg 1 ∔ arg 3) tt)
 
 sub-t12 : tie.Need-sub-t12
-sub-t12 c = search (needs, fits₁ (2 ^ 31) (arg 2 ∸ arg 0) tt)
+sub-t12 c = search (fits₁ (2 ^ 31) (arg 2 ∸ arg 0) tt)
 
 returns : tie.Need-returns
 returns c =

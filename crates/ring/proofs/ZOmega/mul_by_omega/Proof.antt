@@ -17,9 +17,9 @@ returns : tie.Need-returns
 returns c =
     let s = c .before .before .before .before in
     quad-path
-    (search (needs, is₁ (2 ^ 31) (arg 1) tt))
-    (search (needs, is₁ (2 ^ 31) (arg 2) tt))
-    (search (needs, is₁ (2 ^ 31) (arg 3) tt))
+    (search (is₁ (2 ^ 31) (arg 1) tt))
+    (search (is₁ (2 ^ 31) (arg 2) tt))
+    (search (is₁ (2 ^ 31) (arg 3) tt))
     (search (needs, is₁ (2 ^ 31) (lit (pos 0) ∸ arg 0) tt))
     ∙ sym (turned (quad (s .args .self)))
 

@@ -18,9 +18,9 @@ returns c =
     let s = c .before .before .before .before in
     quad-path
     (search (needs, is₁ (2 ^ 31) (lit (pos 0) ∸ arg 3) tt))
-    (search (needs, is₁ (2 ^ 31) (arg 0) tt))
-    (search (needs, is₁ (2 ^ 31) (arg 1) tt))
-    (search (needs, is₁ (2 ^ 31) (arg 2) tt))
+    (search (is₁ (2 ^ 31) (arg 0) tt))
+    (search (is₁ (2 ^ 31) (arg 1) tt))
+    (search (is₁ (2 ^ 31) (arg 2) tt))
     ∙ sym (turned-back (quad (s .args .self)))
 
 pub mul-by-omega-inv-spec : {M : Type 1} → statement M

@@ -5,7 +5,7 @@ use Rattle.ring.proofs.ZOmega.mul_by_omega_inv_power.Statement.{stateme
 use Rattle.ring.proofs.ZOmega.mul_by_omega_inv_power.Tie as tie
 
 returns : tie.Need-returns
-returns c = search (needs, power-none)
+returns c = search power-none
 
 mul-by-omega-inv-requires : tie.Need-mul-by-omega-inv-requires
 mul-by-omega-inv-requires c κs = search needs

@@ -35,7 +35,7 @@ add-result-3 : tie.Need-add-result-3
 add-result-3 c = search needs
 
 returns : tie.Need-returns
-returns c = search (needs, four-bits)
+returns c = search four-bits
 
 pub residue-spec : {M : Type 1} → statement M
 residue-spec =

@@ -2,7 +2,6 @@
 use mathlib.Core.Path.{refl}
 use Rattle.exact.specs.Matrices.Same.{Same-refl}
 use Rattle.unitary.specs.Acts.{Lowering, lower-more, lower-less, lower-done, lower-none}
-use borrow.Author.Needs.{needs}
 use Rattle.unitary.proofs.DOmegaUnitary.reduce_denomexp.Statement.{statement}
 use Rattle.unitary.proofs.DOmegaUnitary.reduce_denomexp.Tie as tie
 
@@ -22,16 +21,16 @@ lowered-requires : tie.Need-lowered-requires Inv-loop μ-loop
 lowered-requires c κs = let i = c .before .before .before .before .loop .inv in (i .z-small, (i .w-small, c .before .before .if1 .taken))
 
 loop-less : tie.Need-loop-less Inv-loop μ-loop
-loop-less c = search (needs, lower-less)
+loop-less c = search lower-less
 
 loop-again : tie.Need-loop-again Inv-loop μ-loop
-loop-again c = search (needs, lower-more)
+loop-again c = search lower-more
 
 returns : tie.Need-returns Inv-loop μ-loop
-returns c = search (needs, lower-done)
+returns c = search lower-done
 
 returns-2 : tie.Need-returns-2 Inv-loop μ-loop
-returns-2 c = search (needs, lower-none)
+returns-2 c = search lower-none
 
 pub reduce-denomexp-spec : {M : Type 1} → statement M
 reduce-denomexp-spec =

@@ -5,7 +5,7 @@ use lib.IntN.{pos}
 use Rattle.exact.specs.Algebra.Omega.{quad-path}
 use Rattle.exact.specs.Whole.Machine.{arg, lit, _∸_}
 use Rattle.ring.specs.Number.{quad}
-use Rattle.ring.specs.Code.{need₁, gives₁}
+use Rattle.ring.specs.Code.{fits₁, is₁}
 use Rattle.view.specs.Size.{coefficients}
 use Rattle.view.proofs.Numbers.{minus}
 use Rattle.view.proofs.number.conj.Statement.{statement}
@@ -14,17 +14,17 @@ use Rattle.view.proofs.number.conj.Tie as tie
 sub-t6 : tie.Need-sub-t6
 sub-t6 c =
     let d = c .before .before .before .before in
-    need₁ (2 ^ 30) (d .args .x) (coefficients (quad (d .args .x)) (d .pre)) (lit (pos 0) ∸ arg 2) tt
+    fits₁ (2 ^ 30) (lit (pos 0) ∸ arg 2) tt (d .args .x) (coefficients (quad (d .args .x)) (d .pre))
 
 sub-t7 : tie.Need-sub-t7
 sub-t7 c =
     let d = c .before .before .before .before in
-    need₁ (2 ^ 30) (d .args .x) (coefficients (quad (d .args .x)) (d .pre)) (lit (pos 0) ∸ arg 1) tt
+    fits₁ (2 ^ 30) (lit (pos 0) ∸ arg 1) tt (d .args .x) (coefficients (quad (d .args .x)) (d .pre))
 
 sub-t8 : tie.Need-sub-t8
 sub-t8 c =
     let d = c .before .before .before .before in
-    need₁ (2 ^ 30) (d .args .x) (coefficients (quad (d .args .x)) (d .pre)) (lit (pos 0) ∸ arg 0) tt
+    fits₁ (2 ^ 30) (lit (pos 0) ∸ arg 0) tt (d .args .x) (coefficients (quad (d .args .x)) (d .pre))
 
 returns : tie.Need-returns
 returns c =
@@ -32,10 +32,10 @@ returns c =
     let x = d .args .x in
     let s = coefficients (quad x) (d .pre) in
     quad-path
-    (gives₁ (2 ^ 30) x s (lit (pos 0) ∸ arg 2) tt ∙ minus (x .c))
-    (gives₁ (2 ^ 30) x s (lit (pos 0) ∸ arg 1) tt ∙ minus (x .b))
-    (gives₁ (2 ^ 30) x s (lit (pos 0) ∸ arg 0) tt ∙ minus (x .a))
-    (gives₁ (2 ^ 30) x s (arg 3) tt)
+    (is₁ (2 ^ 30) (lit (pos 0) ∸ arg 2) tt x s ∙ minus (x .c))
+    (is₁ (2 ^ 30) (lit (pos 0) ∸ arg 1) tt x s ∙ minus (x .b))
+    (is₁ (2 ^ 30) (lit (pos 0) ∸ arg 0) tt x s ∙ minus (x .a))
+    (is₁ (2 ^ 30) (arg 3) tt x s)
 
 pub conj-spec : {M : Type 1} → statement M
 conj-spec = tie.close (tie.spec sub-t6 sub-t7 sub-t8 returns)

@@ -6,7 +6,7 @@ use mir.Syntax.{w64}
 use Rattle.exact.specs.Meaning.Number.{Sized}
 use Rattle.exact.specs.Whole.Machine.{held, arg, _∔_, _∸_}
 use Rattle.ring.specs.Number.{quad}
-use Rattle.ring.specs.Code.{need₁, gives₁}
+use Rattle.ring.specs.Code.{fits₁, is₁}
 use Rattle.ring.specs.declared.ZOmega.{ZOmega}
 use Rattle.view.specs.Meaning.Surd.{over, real, imaginary}
 use Rattle.view.specs.Meaning.Near.{Shows}
@@ -20,13 +20,13 @@ module _ (k : ℕ) (x : ZOmega) (h : (k ≤ 60) × (size (quad x) ≤ 2 ^ k)) wh
   small = coefficients (quad x) (at-most-60 (h .0) (h .1))
 
   real-handed : over k (held w64 (x .d)) (held w64 (held w64 (x .c) -ℤ held w64 (x .a))) ≡ real k (quad x)
-  real-handed = ap₂ (over k) (gives₁ (2 ^ 30) x small (arg 3) tt) (gives₁ (2 ^ 30) x small (arg 2 ∸ arg 0) tt)
+  real-handed = ap₂ (over k) (is₁ (2 ^ 30) (arg 3) tt x small) (is₁ (2 ^ 30) (arg 2 ∸ arg 0) tt x small)
 
   imaginary-handed : over k (held w64 (x .b)) (held w64 (held w64 (x .c) +ℤ held w64 (x .a))) ≡ imaginary k (quad x)
-  imaginary-handed = ap₂ (over k) (gives₁ (2 ^ 30) x small (arg 1) tt) (gives₁ (2 ^ 30) x small (arg 2 ∔ arg 0) tt)
+  imaginary-handed = ap₂ (over k) (is₁ (2 ^ 30) (arg 1) tt x small) (is₁ (2 ^ 30) (arg 2 ∔ arg 0) tt x small)
 
 sub-over : tie.Need-sub-over
-sub-over c = let d = c .before .before .before .before in need₁ (2 ^ 30) (d .args .x) (small (d .args .k) (d .args .x) (d .pre)) (arg 2 ∸ arg 0) tt
+sub-over c = let d = c .before .before .before .before in fits₁ (2 ^ 30) (arg 2 ∸ arg 0) tt (d .args .x) (small (d .args .k) (d .args .x) (d .pre))
 
 over-requires : tie.Need-over-requires
 over-requires c κs =
@@ -36,7 +36,7 @@ over-requires c κs =
 add-over : tie.Need-add-over
 add-over c =
     let d = c .before .before .before .before .before in
-    need₁ (2 ^ 30) (d .args .x) (small (d .args .k) (d .args .x) (d .pre)) (arg 2 ∔ arg 0) tt
+    fits₁ (2 ^ 30) (arg 2 ∔ arg 0) tt (d .args .x) (small (d .args .k) (d .args .x) (d .pre))
 
 over-requires-2 : tie.Need-over-requires-2
 over-requires-2 c κs =

@@ -17,22 +17,22 @@ add-s : tie.Need-add-s
 add-s c = search needs
 
 returns : tie.Need-returns
-returns c = search (needs, is-first)
+returns c = search is-first
 
 returns-2 : tie.Need-returns-2
-returns-2 c = search (needs, is-H)
+returns-2 c = search is-H
 
 returns-3 : tie.Need-returns-3
-returns-3 c = search (needs, is-I)
+returns-3 c = search is-I
 
 returns-4 : tie.Need-returns-4
-returns-4 c = search (needs, is-X)
+returns-4 c = search is-X
 
 returns-5 : tie.Need-returns-5
-returns-5 c = search (needs, is-S)
+returns-5 c = search is-S
 
 returns-6 : tie.Need-returns-6
-returns-6 c = search (needs, is-W)
+returns-6 c = search is-W
 
 pub letter-spec : {M : Type 1} → statement M
 letter-spec =

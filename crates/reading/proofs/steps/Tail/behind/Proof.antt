@@ -23,7 +23,7 @@ moved-requires : tie.Need-moved-requires
 moved-requires c κs = search needs
 
 returns : tie.Need-returns
-returns c = search (needs, gained)
+returns c = search gained
 
 pub behind-spec : {M : Type 1} → statement M
 behind-spec =

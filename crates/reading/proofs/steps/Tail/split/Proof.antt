@@ -20,7 +20,7 @@ axis-at-requires : tie.Need-axis-at-requires
 axis-at-requires c κs = search needs
 
 returns : tie.Need-returns
-returns c = search (needs, split-at)
+returns c = search split-at
 
 pub split-spec : {M : Type 1} → statement M
 split-spec =

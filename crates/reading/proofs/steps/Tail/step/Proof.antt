@@ -9,10 +9,10 @@ use Rattle.reading.proofs.steps.Tail.step.Tie as tie
 
 module _ (s : tie.Start) where
   few-change : changeOf (now (s .args .table)) (s .args .first) (s .args .second) < 3
-  few-change = search (needs, change-few)
+  few-change = search change-few
 
   few-rows : rowOf (now (s .args .table)) (s .args .first) (s .args .second) % 32 < 17
-  few-rows = search (needs, row-few)
+  few-rows = search row-few
 
 mul-pair : tie.Need-mul-pair
 mul-pair c = search needs
@@ -68,10 +68,10 @@ shared-slice-read-entry c =
     omega (arith, few-rows (the-kind .before .before .before))
 
 moved-requires : tie.Need-moved-requires
-moved-requires c κs = search (needs, more-few)
+moved-requires c κs = search more-few
 
 returns : tie.Need-returns
-returns c = search (needs, stepped)
+returns c = search stepped
 
 pub step-spec : {M : Type 1} → statement M
 step-spec =
