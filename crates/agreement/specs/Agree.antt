@@ -13,7 +13,7 @@ use Rattle.exact.specs.Meaning.Normal.{NormalOf}
 use Rattle.exact.specs.Meaning.Triple.{entries}
 use Rattle.exact.specs.Meaning.Limits.{enough, Accepted}
 use Rattle.exact.specs.Meaning.Outcome.{Refusal, Outcome, none, _then_, _also_, HandsOn}
-use Rattle.exact.specs.Meaning.Lent.{Lent, lent, over, untouched, Writes}
+use Rattle.exact.specs.Meaning.Lent.{Lent, lent, over, untouched}
 use Rattle.exact.specs.Meaning.Refusals.{checks, room}
 use Rattle.exact.specs.Cases.Letters.{bytes-length}
 use Rattle.exact.specs.Outcomes.Ladder.{answered, always}

@@ -1,6 +1,6 @@
 -- From a job's outcome to its export's: the numbers as the machine reads them back, and a lemma for each export over plain values. Assumes nothing.
-use mathlib.Core.Path.{_≡_, refl, _∙_, ap, subst}
-use mathlib.Core.List.{List, [], _∷_}
+use mathlib.Core.Path.{_≡_, _∙_, ap, subst}
+use mathlib.Core.List.{List}
 use Prim.Native.Nat.{ℕ, _<_, _^_}
 use native.Mathlib.Omega.{arith}
 use lib.Ieee.{Float}
@@ -15,7 +15,6 @@ use Rattle.exact.specs.Meaning.Lent.{lent}
 use Rattle.exact.specs.Whole.Machine.{held}
 use Rattle.exact.specs.Whole.Size.{sfits-abs}
 use Rattle.ring.specs.declared.ZOmega.{ZOmega}
-use Rattle.unitary.specs.declared.DOmegaUnitary.{DOmegaUnitary}
 use Rattle.unitary.specs.declared.Checked.{Checked}
 use Rattle.unitary.specs.declared.FromGates.{FromGates}
 use Rattle.unitary.specs.Outcomes.{ReduceOutcome, MatrixOutcome}

@@ -10,10 +10,9 @@ use lib.Seq.{take-at, length-take-le}
 use lib.Signed.{mag}
 use mir.Syntax.{w64}
 use Rattle.exact.specs.Meaning.Word.{Letter, tees, bytes}
-use Rattle.exact.specs.Meaning.Normal.{Normal, NormalOf}
+use Rattle.exact.specs.Meaning.Normal.{NormalOf}
 use Rattle.exact.specs.Meaning.Triple.{entries}
 use Rattle.exact.specs.Meaning.Limits.{enough, Accepted}
-use Rattle.exact.specs.Meaning.Limits as Limits
 use Rattle.exact.specs.Meaning.Outcome.{Rung, Outcome, none, _then_, _also_}
 use Rattle.exact.specs.Meaning.Lent.{Lent, lent, over, untouched, Writes}
 use Rattle.exact.specs.Meaning.Refusals.{handedIn, checks, TooMany, room, malformed}

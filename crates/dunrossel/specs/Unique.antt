@@ -1,5 +1,4 @@
 -- Two outcomes that an export allows for one input are equal: its number, its results and its lent bytes, by its job's own theorem. Assumes nothing.
-use mathlib.Core.Path.{_≡_}
 use mathlib.Core.List.{List}
 use Prim.Native.Nat.{ℕ}
 use lib.IntN.{ℤ}

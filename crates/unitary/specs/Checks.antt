@@ -21,8 +21,8 @@ use Rattle.exact.specs.Whole.Linear.{int, sum, difference}
 use Rattle.exact.specs.Whole.Parity.{false-true}
 use Rattle.exact.specs.Whole.Size.{sfits-abs}
 use Rattle.exact.specs.Whole.Machine.{held, arg, lit, _∸_, need-by}
-use Rattle.exact.specs.Matrices.Sizes.{sized-le, squares-size, crosses-size}
-use Rattle.ring.specs.Number.{quad, Small}
+use Rattle.exact.specs.Matrices.Sizes.{squares-size, crosses-size}
+use Rattle.ring.specs.Number.{quad}
 use Rattle.ring.specs.declared.ZOmega.{ZOmega}
 use Rattle.exact.specs.Meaning.Refusals.{InExponents, InCoefficients, checks}
 use Rattle.exact.specs.Outcomes.Ladder.{Checks}

@@ -3,12 +3,6 @@ use Rattle.agreement.specs.Agree.{first-there, second-there}
 use borrow.Author.Needs.{needs}
 use Rattle.agreement.proofs.agree.Statement.{statement}
 use Rattle.agreement.proofs.agree.Tie as tie
-use Rattle.agreement.proofs.agree.Reads as reads
-use Rattle.agreement.proofs.agree.Lts as lts
-use Rattle.agreement.proofs.alike.Reads as alike-reads
-use Rattle.agreement.proofs.second_way.Reads as second-way-reads
-use Rattle.normal_form.proofs.normalise.Reads as normalise-reads
-use Rattle.unitary.proofs.from_gates.Reads as from-gates-reads
 
 normalise-requires : tie.Need-normalise-requires
 normalise-requires c κs = search needs

@@ -5,9 +5,6 @@ use Rattle.agreement.specs.Ways.{first-refused, second-refused, bytes-de
 use borrow.Author.Needs.{needs}
 use Rattle.agreement.proofs.alike.Statement.{statement}
 use Rattle.agreement.proofs.alike.Tie as tie
-use Rattle.agreement.proofs.alike.Reads as reads
-use Rattle.agreement.proofs.alike.Lts as lts
-use Rattle.check.proofs.same.Reads as same-reads
 
 returns : tie.Need-returns
 returns c = search first-refused

@@ -1,7 +1,7 @@
 -- `dunrossel::answer_record` meets its contract: what job 4 says of the numbers, written.
 use native.Mathlib.Omega.{arith}
 use Rattle.record.specs.Meaning.{numbers}
-use Rattle.dunrossel.specs.Record.{Job4Of, Fits64, job4-of, there, few, taken-there, printed-is}
+use Rattle.dunrossel.specs.Record.{Job4Of, job4-of, there, few, taken-there, printed-is}
 use borrow.Author.Needs.{needs}
 use Rattle.dunrossel.proofs.answer_record.Statement.{statement}
 use Rattle.dunrossel.proofs.answer_record.Tie as tie

@@ -1,13 +1,13 @@
 -- Answers in lent memory: one that is the only one is written in one way; the same text may be handed on with other counts; and what is handed
 -- back as written is there. Assumes nothing.
-use mathlib.Core.Path.{_≡_, sym, _∙_, ap, ap₂}
+use mathlib.Core.Path.{_≡_, sym, _∙_, ap}
 use mathlib.Core.List.{List}
 use Prim.Native.Nat.{ℕ, _≤_}
 use native.Mathlib.Omega.{arith}
 use lib.ListN.{length, drop, length-append}
 use Rattle.exact.specs.Meaning.Outcome.{Refusals, none, _then_, Rung, Outcome}
 use Rattle.exact.specs.Meaning.Lent.{Lent, lent, over, untouched, Writes}
-use Rattle.exact.specs.Meaning.Refusals.{TooMany, room}
+use Rattle.exact.specs.Meaning.Refusals.{room}
 use Rattle.exact.specs.Outcomes.Ladder.{Only, always}
 
 pub handed-same : {H : Type 0} {r s : H} {x y : List ℕ} → lent r x ≡ lent s y → r ≡ s
