@@ -35,10 +35,10 @@ returns : tie.Need-returns Inv-loop μ-loop
 returns c = absurd (search not-ended)
 
 sub-write-block : tie.Need-sub-write-block Inv-loop μ-loop
-sub-write-block c = search len-inside
+sub-write-block c = search (needs, len-inside)
 
 part-write-block-start : tie.Need-part-write-block-start Inv-loop μ-loop
-part-write-block-start c = search len-inside
+part-write-block-start c = search (needs, len-inside)
 
 part-write-block-end : tie.Need-part-write-block-end Inv-loop μ-loop
 part-write-block-end c = omega arith
