@@ -1,7 +1,15 @@
--- Texts of a kind, whatever the kind, as document 02 has them: what begins a right one, and the first byte that can't continue one.
-use mathlib.Core.List.{List, _++_}
+-- Texts as bytes; and texts of a kind, whatever the kind, as document 02 has them: what begins a right one, and the first byte that can't
+-- continue one.
+use mathlib.Core.List.{List, [], _∷_, _++_}
 use Prim.Native.Nat.{ℕ, suc, _<_, _≤_}
+use Prim.Native.Char.{code}
+use Prim.Native.String.{String, [] as empty, _∷_ as _before_}
 use lib.ListN.{length, take}
+
+-- a quoted text as bytes, each a character's code
+abbrev pub ascii : String → List ℕ
+ascii empty = []
+ascii (c before s) = code c ∷ ascii s
 
 -- s begins some right text
 pub record Begins (Right : List ℕ → Type 0) (s : List ℕ) : Type 0 where
