@@ -6,3 +6,8 @@ pub mod Gates
 pub mod Writing
 pub mod WritingLaws
 pub mod WriterWays
+pub mod Reading
+pub mod Chosen
+pub mod ReadingLaws
+pub mod LettersLaws
+pub mod ReaderWays

@@ -6,7 +6,7 @@ use mathlib.Core.List.{List, [], _∷_, _++_, append-nil, append-assoc}
 use Prim.Native.Nat.{ℕ, zero, suc, _+_, _<_, _≤_}
 use native.Mathlib.Omega.{arith}
 use borrow.Author.Tests.{eq-eqb}
-use lib.Dec.{T, eqb, eqb→eq}
+use lib.Dec.{T, eqb, eqb→eq, lit≤}
 use lib.ListN.{length, length-append}
 use mir.Facts.{or-yes}
 use Rattle.exact.specs.Meaning.Word.{Letter}
@@ -47,8 +47,18 @@ each P (h, (s, (t, (x, (sd, (td, g)))))) sdg = sd
 each P (h, (s, (t, (x, (sd, (td, g)))))) tdg = td
 each P (h, (s, (t, (x, (sd, (td, g)))))) gphase = g
 
+-- a line has bytes enough to tell it, and letters
+pub line-long : (a : Statement) → 8 ≤ length (lineOf a)
+line-long = each (λ a. 8 ≤ length (lineOf a)) (lit≤ tt, (lit≤ tt, (lit≤ tt, (lit≤ tt, (lit≤ tt, (lit≤ tt, lit≤ tt))))))
+
+pub read-some : (a : Statement) → 1 ≤ length (readAs a)
+read-some = each (λ a. 1 ≤ length (readAs a)) (lit≤ tt, (lit≤ tt, (lit≤ tt, (lit≤ tt, (lit≤ tt, (lit≤ tt, lit≤ tt))))))
+
+pub read-few : (a : Statement) → length (readAs a) ≤ 4
+read-few = each (λ a. length (readAs a) ≤ 4) (lit≤ tt, (lit≤ tt, (lit≤ tt, (lit≤ tt, (lit≤ tt, (lit≤ tt, lit≤ tt))))))
+
 -- ---- statements by number
-abbrev number : Statement → ℕ
+abbrev pub number : Statement → ℕ
 number h′ = 0
 number s′ = 1
 number t′ = 2
@@ -68,6 +78,16 @@ numbered (suc (suc (suc (suc (suc (suc n)))))) = gphase
 
 number-back : (a : Statement) → numbered (number a) ≡ a
 number-back = each (λ a. numbered (number a) ≡ a) (refl, (refl, (refl, (refl, (refl, (refl, refl))))))
+
+pub same-number : (a b : Statement) → T (eqb (number a) (number b)) → a ≡ b
+same-number a b h = sym (number-back a) ∙ ap numbered (eqb→eq (number a) (number b) h) ∙ number-back b
+
+-- what a computed test says of each
+abbrev pub Computed : Type 0
+Computed = Each (λ a. Unit {0})
+
+pub computed : Computed
+computed = (tt, (tt, (tt, (tt, (tt, (tt, tt))))))
 
 -- ---- two texts that differ at a place that both have can't begin the same bytes
 abbrev pub clash : List ℕ → List ℕ → Bool
@@ -98,16 +118,13 @@ abbrev Told : Statement → Statement → Type 0
 Told a b = T (eqb (number a) (number b) || clash (lineOf a) (lineOf b))
 
 told : (a b : Statement) → Told a b
-told a = each (Told a) (each (λ a. Each (Told a)) (row, (row, (row, (row, (row, (row, row)))))) a)
-  where
-    row : Each (λ b. Unit {0})
-    row = (tt, (tt, (tt, (tt, (tt, (tt, tt))))))
+told a = each (Told a) (each (λ a. Each (Told a)) (computed, (computed, (computed, (computed, (computed, (computed, computed)))))) a)
 
 pub same-line : (a b : Statement) (r t : List ℕ) → lineOf a ++ r ≡ lineOf b ++ t → a ≡ b
 same-line a b r t e = go (or-yes (eqb (number a) (number b)) (clash (lineOf a) (lineOf b)) (told a b))
   where
     go : T (eqb (number a) (number b)) ⊎ T (clash (lineOf a) (lineOf b)) → a ≡ b
-    go (inl h) = sym (number-back a) ∙ ap numbered (eqb→eq (number a) (number b) h) ∙ number-back b
+    go (inl h) = same-number a b h
     go (inr h) = absurd (clash-apart (lineOf a) (lineOf b) r t h e)
 
 pub same-header : (d e : Edition) (r t : List ℕ) → header d ++ r ≡ header e ++ t → d ≡ e

@@ -124,7 +124,7 @@ lettersOf-append : (v w : List ℕ) → lettersOf (v ++ w) ≡ lettersOf v ++ le
 lettersOf-append [] w = refl
 lettersOf-append (b ∷ v) w = ap (λ x. letterOf b ∷ x) (lettersOf-append v w)
 
-bytes-append : (u v : List Letter) → bytes (u ++ v) ≡ bytes u ++ bytes v
+pub bytes-append : (u v : List Letter) → bytes (u ++ v) ≡ bytes u ++ bytes v
 bytes-append [] v = refl
 bytes-append (l ∷ u) v = ap (λ x. byte l ∷ x) (bytes-append u v)
 

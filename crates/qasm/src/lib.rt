@@ -1,12 +1,15 @@
 // OpenQASM 2.0 and 3.0 on one qubit: a word's circuit written, and a circuit's letters read.
+mod reader;
 mod writer;
 
+use reader::Walked;
 use writer::Measured;
 ghost use mathlib.Core.Path.{_≡_};
 ghost use Prim.Native.Nat.{_≤_};
 ghost use lib.ListN.{length};
-ghost use Rattle.qasm.specs.Meaning.{refused, WriteOutcome};
+ghost use Rattle.qasm.specs.Meaning.{refused, WriteOutcome, ReadOutcome};
 ghost use Rattle.qasm.specs.Writing.{editionOf, Measures, PhaseIs, PutsCircuit};
+ghost use Rattle.qasm.specs.Reading.{OfCircuit};
 
 // What is handed back: the refusal or 0, its place, and the bytes written.
 pub struct Written {
@@ -84,5 +87,34 @@ pub fn write(edition: Edition, word: &[u8], buf: &mut [u8]) -> Written
     match writer::measure(word) {
         Measured::Outside(place) => refused(exact::LETTER, place),
         Measured::Word { lines, phase } => write_word(edition, lines, phase, word, buf),
+    }
+}
+
+// The letters of a right text, if they are not too many and there is room.
+fn read_circuit(text: &[u8], start: usize, letters: usize, buf: &mut [u8]) -> Written
+    requires { ⌜ OfCircuit (now text) start letters ⌝ }
+    ensures { λ r. ⌜ ReadOutcome (now (text .entry)) (now (buf .entry)) r (now (buf .exit)) ⌝ }
+{
+    if letters > exact::LONGEST {
+        return refused(exact::LONG, 0);
+    }
+    if letters > buf.len() {
+        return refused(exact::ROOM, 0);
+    }
+    reader::put_letters(text, start, letters, buf);
+    Written {
+        refusal: exact::ACCEPTED,
+        place: 0,
+        bytes: letters,
+    }
+}
+
+// The letters of a circuit of either edition, its first statement the rightmost.
+pub fn read(text: &[u8], buf: &mut [u8]) -> Written
+    ensures { λ r. ⌜ ReadOutcome (now (text .entry)) (now (buf .entry)) r (now (buf .exit)) ⌝ }
+{
+    match reader::walk(text) {
+        Walked::Stopped(place) => refused(exact::STATEMENT, place),
+        Walked::Circuit { start, letters } => read_circuit(text, start, letters, buf),
     }
 }
