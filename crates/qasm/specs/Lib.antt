@@ -11,3 +11,4 @@ pub mod Chosen
 pub mod ReadingLaws
 pub mod LettersLaws
 pub mod ReaderWays
+pub mod Unique
