@@ -98,10 +98,13 @@ module _ (e : Edition) (u : List Letter) (old : List ℕ) (h : Passed (writeRefu
 
   module _ (old′ : List ℕ) (l : length (lessI u) ≤ length old′) where
     passed : Passed (readRefusals circuitText old′)
-    passed =
-        ((λ p k. k .wrong right-written),
-        ((λ p k. omega (arith, k .0 .more, same (k .0 .v) (k .0 .answer), lessI-length u, short)),
-        ((λ p k. omega (arith, k .0 .more, same (k .0 .v) (k .0 .answer), bytes-length (k .0 .v))), tt)))
+    passed = (
+      (λ p k. k .wrong right-written),
+      (
+        (λ p k. omega (arith, k .0 .more, same (k .0 .v) (k .0 .answer), lessI-length u, short)),
+        ((λ p k. omega (arith, k .0 .more, same (k .0 .v) (k .0 .answer), bytes-length (k .0 .v))), tt),
+      ),
+    )
       where
         same : (v : List Letter) → Reads circuitText v → length v ≡ length (lessI u)
         same v x = ap length (one-reading circuitText v (lessI u) x reads-written)
