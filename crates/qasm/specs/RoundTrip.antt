@@ -19,11 +19,11 @@ use Rattle.exact.specs.Cases.Letters.{bytes-length, bytes-inj, none-outside, al
 use Rattle.exact.specs.Outcomes.Ladder.{Passed, answered}
 use Rattle.exact.specs.Outcomes.Lent.{handed-same, bytes-same}
 use Rattle.qasm.specs.declared.Written.{Written}
-use Rattle.qasm.specs.Meaning.{Edition, two, three, row, Statement, h′, s′, t′, x′, allowed, AllAllowed, text, Right, letters, statementOf, circuit, lessI, matrix}
-use Rattle.qasm.specs.Meaning.{refused, accepted, Circuits, unless, writeRefusals, WriteOutcome, Reads, readRefusals, ReadOutcome}
-use Rattle.qasm.specs.Lines.{allowed-append, each, computed}
-use Rattle.qasm.specs.Gates.{letters-circuit, circuit-matrix, word-matrix}
-use Rattle.qasm.specs.ReaderWays.{one-reading}
+use Rattle.circuit.specs.Meaning.{Edition, two, three, row, Statement, h′, s′, t′, x′, allowed, AllAllowed, text, Right, letters, statementOf, circuit, lessI, matrix}
+use Rattle.qasm.specs.Outcome.{refused, accepted, Circuits, unless, writeRefusals, WriteOutcome, readRefusals, ReadOutcome}
+use Rattle.circuit.specs.Meaning.{Reads}
+use Rattle.circuit.specs.Lines.{allowed-append, each, computed, one-reading}
+use Rattle.circuit.specs.Gates.{letters-circuit, circuit-matrix, word-matrix}
 
 -- ---- a word's circuit is allowed where the edition has a phase, or the word has no W
 module _ (l : Letter) (u : List Letter) (other : byte l ≡ byte W → ⊥) where
