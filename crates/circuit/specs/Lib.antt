@@ -3,3 +3,4 @@ pub mod Meaning
 pub mod Lines
 pub mod Stuck
 pub mod Gates
+mod Cases

@@ -4,3 +4,4 @@ pub mod WriterWays
 pub mod ReaderWays
 pub mod Unique
 pub mod RoundTrip
+pub mod Useless
