@@ -1,9 +1,9 @@
 -- A circuit's own matrix is that of its letters, for every circuit; and a word and its circuit have one matrix. Assumes nothing.
-use mathlib.Core.Path.{_≡_, refl, sym, _∙_, ap, subst}
-use mathlib.Core.List.{List, [], _∷_, _++_, append-nil, append-assoc}
-use Rattle.exact.specs.Meaning.Matrix.{Matrix, unit, _·_, Same}
+use mathlib.Core.Path.{_≡_, refl, sym, _∙_, ap}
+use mathlib.Core.List.{List, [], _∷_, _++_}
+use Rattle.exact.specs.Meaning.Matrix.{unit, _·_, Same}
 use Rattle.exact.specs.Meaning.Word.{Letter, I, H, S, X, W, T′, letter, word}
-use Rattle.exact.specs.Matrices.Same.{Same-refl, Same-sym, Same-trans, Same-of, Same-mul, mul-unit, unit-mul}
+use Rattle.exact.specs.Matrices.Same.{Same-refl, Same-sym, Same-trans, Same-of, Same-mul, unit-mul}
 use Rattle.exact.specs.Matrices.Words.{word-append}
 use Rattle.exact.specs.Matrices.Test.{same-by}
 use Rattle.circuit.specs.Meaning.{Statement, s′, t′, sdg, tdg, gate, matrix, readAs, letters, statementOf, circuit, lessI}

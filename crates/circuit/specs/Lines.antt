@@ -1,18 +1,18 @@
 -- Lines of circuits: put together, told apart, and read in one way only. Assumes nothing.
-use mathlib.Core.Path.{_≡_, refl, sym, _∙_, ap, ap₂, subst}
+use mathlib.Core.Path.{_≡_, refl, sym, _∙_, ap, ap₂}
 use mathlib.Core.Logic.{_⊎_, inl, inr}
-use mathlib.Core.Bool.{Bool, true, false, _&&_, _||_}
+use mathlib.Core.Bool.{Bool, true, false, _||_}
 use mathlib.Core.List.{List, [], _∷_, _++_, append-nil, append-assoc}
-use Prim.Native.Nat.{ℕ, zero, suc, _+_, _<_, _≤_}
+use Prim.Native.Nat.{ℕ, zero, suc, _+_, _≤_}
 use native.Mathlib.Omega.{arith}
 use borrow.Author.Tests.{eq-eqb}
 use lib.Dec.{T, eqb, eqb→eq, lit≤}
-use lib.ListN.{length, length-append}
+use lib.ListN.{length}
 use mir.Facts.{or-yes}
 use Rattle.exact.specs.Meaning.Word.{Letter, byte, bytes}
 use Rattle.exact.specs.Outcomes.Ladder.{Only}
 use Rattle.circuit.specs.Meaning.{Edition, two, three, Statement, h′, s′, t′, x′, sdg, tdg, gphase}
-use Rattle.circuit.specs.Meaning.{spelling, allowed, AllAllowed, line, header, lines, text, TextOf, readAs, letters, Reads}
+use Rattle.circuit.specs.Meaning.{spelling, AllAllowed, line, header, lines, TextOf, readAs, letters, Reads}
 
 -- the line of a statement
 abbrev pub lineOf : Statement → List ℕ

@@ -3,22 +3,22 @@
 use mathlib.Core.Path.{_≡_, refl, sym, _∙_, ap, subst}
 use mathlib.Core.Logic.{_⊎_, inl, inr}
 use mathlib.Core.Bool.{Bool, true, false, not, _||_}
-use mathlib.Core.List.{List, [], _∷_, _++_, append-assoc}
-use Prim.Native.Nat.{ℕ, zero, suc, _+_, _-_, _<_, _≤_}
+use mathlib.Core.List.{List, _++_}
+use Prim.Native.Nat.{ℕ, _+_, _-_, _<_, _≤_}
 use native.Mathlib.Nat.{add-zero}
 use native.Mathlib.Omega.{arith}
 use borrow.Author.Tests.{eqb-true, eqb-false, ltb-true, ltb-false}
 use lib.Dec.{T, eqb, ltb, eqb→eq}
-use lib.ListN.{length, take, drop, getD, length-append, length-drop, take-append-drop}
+use lib.ListN.{length, take, drop, getD, length-drop, take-append-drop}
 use mir.Facts.{or-yes}
-use lib.Seq.{getD-drop, getD-take, take-all, drop-drop}
+use lib.Seq.{getD-drop, getD-take, take-all}
 use Rattle.exact.specs.Meaning.Text.{Stops}
 use Rattle.circuit_reader.specs.declared.Line.{Line}
 use Rattle.circuit_reader.specs.declared.Line.the-variants as Line
 use Rattle.circuit.specs.Meaning.{Edition, two, three, Statement, h′, s′, t′, x′, sdg, tdg, gphase, allowed, header, Right, readAs}
 use Rattle.circuit.specs.Lines.{lineOf, Each, each, line-long, number, same-number, computed}
-use Rattle.circuit.specs.Stuck.{Parts, Stuck, IsHeader, header-stops, IsLine}
-use Rattle.circuit_reader.specs.Reading.{Along, Less, Whole, MatchIs, StopsAt, Taken, LineIs, Headed}
+use Rattle.circuit.specs.Stuck.{Parts, Stuck, header-stops, IsLine}
+use Rattle.circuit_reader.specs.Reading.{Along, MatchIs, LineIs, Headed}
 
 -- ---- a line that can only be the statement a: every other differs from it in the first byte or the second
 pub record Chosen (s : List ℕ) (at : ℕ) (a : Statement) : Type 0 where

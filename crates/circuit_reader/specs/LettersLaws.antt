@@ -2,19 +2,19 @@
 -- Assumes nothing.
 use mathlib.Core.Path.{_≡_, refl, sym, _∙_, ap, ap₂, subst}
 use mathlib.Core.List.{List, [], _∷_, _++_, append-nil, append-assoc}
-use Prim.Native.Nat.{ℕ, zero, suc, _+_, _-_, _<_, _≤_, _^_}
+use Prim.Native.Nat.{ℕ, suc, _+_, _-_, _<_, _≤_, _^_}
 use native.Mathlib.Nat.{add-zero}
 use native.Mathlib.Omega.{arith}
-use mir.Syntax.{w8, w64}
+use mir.Syntax.{w64}
 use mir.Val.{Fits}
 use lib.Dec.{lit≤}
-use lib.ListN.{length, take, drop, set, getD, length-append, length-drop, List·getD-append}
+use lib.ListN.{length, drop, set, getD, length-append, length-drop, List·getD-append}
 use lib.Seq.{sets, length-sets, sets-eq, set-comm, drop-drop, drop-append-seam, getD-drop}
 use Rattle.exact.specs.Meaning.Word.{Letter, bytes}
 use Rattle.exact.specs.Meaning.Lent.{over}
 use Rattle.exact.specs.Cases.Letters.{bytes-length}
 use Rattle.circuit_reader.specs.declared.Step.{Step}
-use Rattle.circuit.specs.Meaning.{Statement, h′, s′, t′, x′, sdg, tdg, gphase, header, lines, text, Right, readAs, letters, Reads}
+use Rattle.circuit.specs.Meaning.{Statement, header, lines, readAs, letters, Reads}
 use Rattle.circuit.specs.Lines.{lineOf, Each, each, line-long, read-some, one-reading, bytes-append}
 use Rattle.circuit_reader.specs.Reading.{OfCircuit, Before, PutsBefore, Stands, Stepped, PutsStatement, PutsLetters}
 

@@ -2,7 +2,7 @@
 -- Assumes nothing.
 use mathlib.Core.Path.{_≡_}
 use mathlib.Core.Bool.{Bool, true}
-use mathlib.Core.List.{List, [], _∷_, _++_}
+use mathlib.Core.List.{List, _∷_, _++_}
 use Prim.Native.Nat.{ℕ, suc, _+_, _<_, _≤_}
 use lib.Dec.{T}
 use lib.ListN.{length, take, drop, set, getD}
@@ -15,7 +15,7 @@ use Rattle.circuit_reader.specs.declared.Walked.the-variants as Walked
 use Rattle.circuit_reader.specs.declared.Line.{Line}
 use Rattle.circuit_reader.specs.declared.Line.the-variants as Line
 use Rattle.circuit_reader.specs.declared.Step.{Step}
-use Rattle.circuit.specs.Meaning.{Edition, row, Statement, allowed, header, TextOf, Right, readAs, letters, Reads}
+use Rattle.circuit.specs.Meaning.{Edition, row, Statement, allowed, header, Right, readAs, letters, Reads}
 use Rattle.circuit.specs.Lines.{lineOf}
 use Rattle.circuit.specs.Stuck.{IsLine, Stuck}
 

@@ -3,29 +3,24 @@
 use mathlib.Core.Path.{_≡_, refl, sym, _∙_, ap, ap₂, subst}
 use mathlib.Core.Bool.{Bool, true, false, false≢true}
 use mathlib.Core.List.{List, [], _∷_, _++_, append-nil, append-assoc}
-use Prim.Native.Nat.{ℕ, zero, suc, _+_, _-_, _<_, _≤_, _^_, min}
+use Prim.Native.Nat.{ℕ, suc, _+_, _-_, _<_, _≤_, _^_, min}
 use native.Mathlib.Nat.{add-zero}
 use native.Mathlib.Numerals.{add-one}
 use native.Mathlib.Omega.{arith}
 use borrow.Author.Tests.{eqb-true, ne-eqb}
-use mir.Syntax.{w8, w64}
+use mir.Syntax.{w64}
 use mir.Val.{Fits}
 use lib.Dec.{T, eqb}
-use lib.ListN.{length, take, drop, set, getD, length-append, length-drop, take-append-drop, drop-of-length-le, List·getD-append, List·getD-eq-default}
-use lib.Seq.{sets, length-sets, sets-eq, set-comm, take-suc, take-all, drop-cons, drop-drop, drop-append-seam, getD-drop}
-use Rattle.exact.specs.Meaning.Word.{Letter, bytes}
-use Rattle.exact.specs.Meaning.Lent.{over}
+use lib.ListN.{length, take, drop, getD, length-append, length-drop, take-append-drop, drop-of-length-le, List·getD-eq-default}
+use lib.Seq.{take-suc, take-all, drop-cons, drop-drop, getD-drop}
 use Rattle.exact.specs.Meaning.Text.{ascii, Stops}
-use Rattle.exact.specs.Cases.Letters.{bytes-length}
 use Rattle.circuit_reader.specs.declared.Line.{Line}
 use Rattle.circuit_reader.specs.declared.Line.the-variants as Line
-use Rattle.circuit_reader.specs.declared.Step.{Step}
-use Rattle.circuit.specs.Meaning.{Edition, row, Statement, h′, s′, t′, x′, sdg, tdg, gphase, allowed, AllAllowed, header, lines, text, TextOf, Right}
+use Rattle.circuit.specs.Meaning.{Edition, row, Statement, h′, s′, t′, x′, allowed, AllAllowed, header, lines, text, Right}
 use Rattle.circuit.specs.Meaning.{readAs, letters}
 use Rattle.circuit.specs.Lines.{lineOf, lines-append, allowed-append, letters-append, line-long, read-few}
 use Rattle.circuit.specs.Stuck.{IsLine, Stuck, line-stops}
-use Rattle.circuit_reader.specs.Reading.{Along, Less, Whole, MatchIs, StopsAt, Taken, LineIs, GateNamed, TailIs, GateIs, Headed, OfCircuit, Before, PutsBefore}
-use Rattle.circuit_reader.specs.Reading.{Stands, Stepped, PutsStatement, PutsLetters}
+use Rattle.circuit_reader.specs.Reading.{Along, Less, Whole, StopsAt, Taken, LineIs, GateNamed, TailIs, GateIs, Headed, OfCircuit}
 
 -- ---- the first k bytes go along
 pub record Going (s : List ℕ) (at : ℕ) (w : List ℕ) (end k : ℕ) : Type 0 where

@@ -1,23 +1,16 @@
 -- What the writer's functions promise one another: a word measured, and its lines put. Assumes nothing.
-use mathlib.Core.Path.{_≡_, refl, sym, _∙_, ap, ap₂, subst}
-use mathlib.Core.Logic.{_⊎_, inl, inr}
+use mathlib.Core.Path.{_≡_}
 use mathlib.Core.Bool.{cond}
-use mathlib.Core.List.{List, [], _∷_, _++_, append-nil, append-assoc}
-use Prim.Native.Nat.{ℕ, zero, suc, _+_, _-_, _*_, _<_, _≤_}
-use native.Mathlib.Numerals.{add-one}
-use native.Mathlib.Omega.{arith}
+use mathlib.Core.List.{List}
+use Prim.Native.Nat.{ℕ, _+_, _-_, _<_, _≤_}
 use lib.Dec.{eqb, ltb}
-use lib.ListN.{length, take, drop, getD, length-append}
-use lib.Seq.{take-suc, take-all, drop-cons}
-use Rattle.exact.specs.Meaning.Word.{Letter, I, H, S, X, W, T′, byte, bytes, job2, In, FirstOutside, First}
-use Rattle.exact.specs.Meaning.Lent.{lent}
-use Rattle.exact.specs.Cases.Letters.{letterOf, letterOf-byte, lettersOf, lettersOf-bytes}
+use lib.ListN.{length, getD}
+use Rattle.exact.specs.Meaning.Word.{Letter, W, byte, bytes, job2, In, FirstOutside}
+use Rattle.exact.specs.Cases.Letters.{letterOf, lettersOf}
 use Rattle.exact.specs.Outcomes.Lent as Outcomes
-use Rattle.lent.specs.Written.{Written as Puts, written-both}
 use Rattle.circuit_writer.specs.declared.Measured as Measured
 use Rattle.circuit_writer.specs.declared.Measured.the-variants.{Outside, Word}
-use Rattle.circuit.specs.Meaning.{Edition, two, three, Statement, lines, text, statementOf, circuit}
-use Rattle.circuit.specs.Lines.{lines-append}
+use Rattle.circuit.specs.Meaning.{lines, statementOf, circuit}
 
 -- ---- bytes that are letters
 pub record IsLetter (b : ℕ) : Type 0 where

@@ -1,9 +1,8 @@
 -- The laws by which the writer's functions keep their promises: a line more measured, a line more put. Assumes nothing.
 use mathlib.Core.Path.{_≡_, refl, sym, _∙_, ap, ap₂, subst}
 use mathlib.Core.Bool.{Bool, true, false, cond}
-use mathlib.Core.List.{List, [], _∷_, _++_, append-nil, append-assoc}
+use mathlib.Core.List.{List, [], _∷_, _++_}
 use Prim.Native.Nat.{ℕ, zero, suc, _+_, _-_, _*_, _<_, _≤_}
-use native.Mathlib.Nat.{add-assoc, add-comm}
 use native.Mathlib.Numerals.{add-one}
 use native.Mathlib.Omega.{arith}
 use borrow.Author.Tests.{eqb-true, eqb-false, ltb-true, ltb-false, lt-ltb, le-ltb, eq-eqb, ne-eqb}
@@ -12,11 +11,11 @@ use mir.Val.{Fits}
 use lib.Dec.{eqb, ltb}
 use lib.ListN.{length, take, drop, set, getD, length-append, List·getD-append}
 use lib.Seq.{length-take-le, take-suc, take-all, take-length, drop-length, drop-cons, getD-take, getD-append-seam}
-use Rattle.exact.specs.Meaning.Word.{Letter, I, H, S, X, W, T′, byte, bytes, job2, In, FirstOutside, First}
+use Rattle.exact.specs.Meaning.Word.{Letter, I, H, S, X, W, T′, byte, bytes, job2, In, FirstOutside}
 use Rattle.exact.specs.Meaning.Text.{ascii}
 use Rattle.exact.specs.Cases.Letters.{letterOf, letterOf-byte, lettersOf}
 use Rattle.lent.specs.Written.{Written as Puts, written-both, written-byte, written-length}
-use Rattle.circuit.specs.Meaning.{Statement, lines, statementOf, circuit}
+use Rattle.circuit.specs.Meaning.{lines, statementOf, circuit}
 use Rattle.circuit.specs.Lines.{lines-append, cons-head, cons-tail, bytes-append}
 use Rattle.circuit_writer.specs.Writing.{IsLetter, Spells, sizeOf, size, SizeIs, letter, no-letter, Measures, PhaseIs, pastPhase}
 

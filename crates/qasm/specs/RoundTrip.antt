@@ -1,26 +1,25 @@
 -- Reading what was written gives the written letters back but for I, over both editions; and what is read, or written, has the circuit's own
 -- matrix. Assumes nothing.
 use mathlib.Core.Path.{_≡_, refl, sym, _∙_, ap, ap₂, subst}
-use mathlib.Core.Bool.{Bool, true, false}
-use mathlib.Core.List.{List, [], _∷_, _++_}
+use mathlib.Core.Bool.{true, false}
+use mathlib.Core.List.{List, [], _∷_}
 use Prim.Native.Nat.{ℕ, zero, suc, _<_, _≤_}
 use native.Mathlib.Omega.{arith}
 use lib.Dec.{T}
 use lib.ListN.{length, take, drop, getD}
 use lib.Seq.{take-append-seam}
 use Rattle.exact.specs.Meaning.Matrix.{Same}
-use Rattle.exact.specs.Meaning.Word.{Letter, I, H, S, X, W, T′, word, byte, bytes, job2, First, Spelled}
+use Rattle.exact.specs.Meaning.Word.{Letter, I, H, S, X, W, T′, word, byte, bytes, First, Spelled}
+use Rattle.exact.specs.Meaning.Normal.{NormalOf}
 use Rattle.exact.specs.Meaning.Limits.{longest}
-use Rattle.exact.specs.Meaning.Outcome.{none, _then_}
-use Rattle.exact.specs.Meaning.Lent.{Lent, lent, over, untouched, Writes}
-use Rattle.exact.specs.Meaning.Refusals.{phase}
+use Rattle.exact.specs.Meaning.Lent.{lent, over, untouched, Writes}
 use Rattle.exact.specs.Matrices.Same.{Same-of, Same-trans}
-use Rattle.exact.specs.Cases.Letters.{bytes-length, bytes-inj, none-outside, all-job2}
+use Rattle.exact.specs.Cases.Letters.{bytes-length, bytes-inj}
 use Rattle.exact.specs.Outcomes.Ladder.{Passed, answered}
 use Rattle.exact.specs.Outcomes.Lent.{handed-same, bytes-same}
 use Rattle.qasm.specs.declared.Written.{Written}
-use Rattle.circuit.specs.Meaning.{Edition, two, three, row, Statement, h′, s′, t′, x′, allowed, AllAllowed, text, Right, letters, statementOf, circuit, lessI, matrix}
-use Rattle.qasm.specs.Outcome.{refused, accepted, Circuits, unless, writeRefusals, WriteOutcome, readRefusals, ReadOutcome}
+use Rattle.circuit.specs.Meaning.{Edition, two, three, row, Statement, h′, s′, t′, x′, allowed, AllAllowed, text, Right, letters, circuit, lessI, matrix}
+use Rattle.qasm.specs.Outcome.{refused, accepted, Circuits, writeRefusals, WriteOutcome, readRefusals, ReadOutcome}
 use Rattle.circuit.specs.Meaning.{Reads}
 use Rattle.circuit.specs.Lines.{allowed-append, each, computed, one-reading}
 use Rattle.circuit.specs.Gates.{letters-circuit, circuit-matrix, word-matrix}
@@ -71,10 +70,13 @@ module _ (s : List ℕ) (v : List Letter) (x : Reads s v) (old : List ℕ) (shor
   same w y = ap length (one-reading s w v y x)
 
   passed : Passed (readRefusals s old)
-  passed =
-      ((λ p k. k .wrong (x .right)),
-      ((λ p k. omega (arith, k .0 .more, same (k .0 .v) (k .0 .answer))),
-      ((λ p k. omega (arith, k .0 .more, same (k .0 .v) (k .0 .answer), bytes-length (k .0 .v))), tt)))
+  passed = (
+    (λ p k. k .wrong (x .right)),
+    (
+      (λ p k. omega (arith, k .0 .more, same (k .0 .v) (k .0 .answer))),
+      ((λ p k. omega (arith, k .0 .more, same (k .0 .v) (k .0 .answer), bytes-length (k .0 .v))), tt),
+    ),
+  )
 
   pub only-read : (r : Written) (new : List ℕ) → ReadOutcome s old r new → lent r new ≡ lent (accepted (bytes v)) (over (bytes v) old)
   only-read r new q = b .is ∙ ap (λ w. lent (accepted (bytes w)) (over (bytes w) old)) (one-reading s (b .v) v (b .answer) x)
@@ -128,6 +130,10 @@ module _ (e : Edition) (u : List Letter) (old : List ℕ) (h : Passed (writeRefu
 -- the letters that are read of a text have its circuit's own matrix, phase included
 pub reads-matrix : (s : List ℕ) (v : List Letter) (x : Reads s v) → Same (matrix (x .right .circuit)) (word v)
 reads-matrix s v x = Same-trans (circuit-matrix (x .right .circuit)) (Same-of (ap word (sym (x .is))))
+
+-- so the normal word of those letters, by either way of demand 3, is that of the circuit's own matrix
+pub reads-normal : (s : List ℕ) (v : List Letter) (x : Reads s v) (n : List Letter) → NormalOf (word v) n → NormalOf (matrix (x .right .circuit)) n
+reads-normal s v x n h = record { normal = h .normal; same = Same-trans (reads-matrix s v x) (h .same) }
 
 -- and so has the circuit that is written of a word: in 3.0 every word's
 pub writes-matrix : (w : List ℕ) (c : List Statement) (x : Spelled Circuits w c) → Same (word (x .letters)) (matrix c)

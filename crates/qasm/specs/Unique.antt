@@ -1,12 +1,10 @@
 -- Two outcomes that the writer, or the reader, allows for one input are equal. Assumes nothing.
 use mathlib.Core.Path.{_≡_, sym, _∙_}
-use mathlib.Core.Bool.{Bool, true, false}
 use mathlib.Core.List.{List}
 use Prim.Native.Nat.{ℕ}
 use Rattle.exact.specs.Meaning.Word.{bytes, Spelled}
-use Rattle.exact.specs.Meaning.Outcome.{Refusal, Refusals}
-use Rattle.exact.specs.Meaning.Lent.{Lent, lent, untouched, Writes}
-use Rattle.exact.specs.Outcomes.Ladder.{Only, OnePlace, one-outcome}
+use Rattle.exact.specs.Meaning.Lent.{Lent, untouched, Writes}
+use Rattle.exact.specs.Outcomes.Ladder.{OnePlace, one-outcome}
 use Rattle.exact.specs.Outcomes.Places.{one-plain, one-letter, one-first, one-stop, one-spelled}
 use Rattle.exact.specs.Outcomes.Lent.{one-written}
 use Rattle.qasm.specs.declared.Written.{Written}

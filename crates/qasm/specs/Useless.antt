@@ -1,6 +1,6 @@
 -- No useless program meets the writer's or the reader's promise: each is refuted, at every input or at one. Assumes nothing.
-use mathlib.Core.Path.{_≡_, refl, sym, _∙_, ap}
-use mathlib.Core.List.{List, [], _∷_, _++_}
+use mathlib.Core.Path.{_≡_, refl, _∙_, ap}
+use mathlib.Core.List.{List, [], _∷_}
 use Prim.Native.Nat.{ℕ, zero, suc, _≤_}
 use native.Mathlib.Omega.{arith}
 use lib.Dec.{lit≤}
@@ -42,10 +42,13 @@ dots (suc n) = 46 ∷ dots n
 -- a word in 3.0, where there is room
 module _ (u : List Letter) (old : List ℕ) (short : length u ≤ longest) (enough : length (text three (circuit u)) ≤ length old) where
   passes : Passed (writeRefusals three (bytes u) old)
-  passes =
-      ((λ p k. omega (arith, k .0, bytes-length u)),
-      (none-outside job2 u (all-job2 u),
-      ((λ p k. omega (arith, k .0 .more, same (k .0 .v) (k .0 .answer))), tt)))
+  passes = (
+    (λ p k. omega (arith, k .0, bytes-length u)),
+    (
+      none-outside job2 u (all-job2 u),
+      ((λ p k. omega (arith, k .0 .more, same (k .0 .v) (k .0 .answer))), tt),
+    ),
+  )
     where
       same : (c : List Statement) → Spelled Circuits (bytes u) c → length (text three c) ≡ length (text three (circuit u))
       same c x = ap (λ d. length (text three d)) (x .holds ∙ ap circuit (bytes-inj (x .letters) u (x .spelled)))

@@ -1,7 +1,7 @@
 -- The ways out of the writer: a lemma for each, over plain values. Assumes nothing.
 use mathlib.Core.Path.{_≡_, refl, sym, _∙_, ap, subst}
 use mathlib.Core.List.{List, _++_}
-use Prim.Native.Nat.{ℕ, _+_, _<_, _≤_, _^_}
+use Prim.Native.Nat.{ℕ, _+_, _<_, _≤_}
 use native.Mathlib.Omega.{arith}
 use mir.Syntax.{w64}
 use mir.Val.{Fits}
@@ -9,7 +9,7 @@ use lib.ListN.{length, length-append}
 use Rattle.exact.specs.Meaning.Word.{W, byte, job2, FirstOutside, First, Spelled}
 use Rattle.exact.specs.Meaning.Limits.{longest, Long, Letter, Phase, Room}
 use Rattle.exact.specs.Meaning.Outcome.{Rung}
-use Rattle.exact.specs.Meaning.Lent.{lent, over, untouched}
+use Rattle.exact.specs.Meaning.Lent.{lent, untouched}
 use Rattle.exact.specs.Cases.Letters.{lettersOf, lettersOf-bytes, none-outside, all-job2}
 use Rattle.exact.specs.Outcomes.Lent as Lent
 use Rattle.lent.specs.Written.{Written as Puts, written-both, written-over}
@@ -18,7 +18,7 @@ use Rattle.qasm.specs.declared.Edition as Declared
 use Rattle.qasm.specs.declared.Edition.the-variants.{Two, Three}
 use Rattle.circuit_writer.specs.declared.Measured.{Measured}
 use Rattle.circuit_writer.specs.declared.Measured.the-variants.{Outside, Word}
-use Rattle.circuit.specs.Meaning.{Edition, two, three, Statement, header, lines, text, circuit}
+use Rattle.circuit.specs.Meaning.{Edition, two, three, header, lines, text, circuit}
 use Rattle.qasm.specs.Outcome.{refused, accepted, editionOf, Circuits, WriteOutcome}
 use Rattle.circuit_writer.specs.Writing.{Spells, Measures, PhaseIs, MeasureIs}
 use Rattle.circuit_writer.specs.WritingLaws.{size-most, lettersOf-length}

@@ -1,6 +1,5 @@
 -- `reader::lines_from` meets its contract. Assumes nothing.
 use Prim.Native.Nat.{_-_}
-use native.Mathlib.Omega.{arith}
 use borrow.Author.Needs.{needs}
 use lib.ListN.{length}
 use Rattle.circuit_reader.specs.ReadingLaws.{Walking, walking-none, walking-fits, walking-less, walking-more, walking-stops, walked}

@@ -1,6 +1,5 @@
 -- `reader::put_letters` meets its contract. Assumes nothing.
-use Prim.Native.Nat.{_-_, _≤_}
-use native.Mathlib.Omega.{arith}
+use Prim.Native.Nat.{_-_}
 use borrow.Author.Needs.{needs}
 use lib.ListN.{length}
 use Rattle.circuit_reader.specs.LettersLaws.{Putting, putting-none, putting-stands, putting-less, putting-more, putting-length, putting-all}
