@@ -94,9 +94,8 @@ size_t dunrossel_bench(const uint8_t *record, size_t len, uint8_t out[512]);
  * then a line for each statement: h q[0]; s q[0]; t q[0]; x q[0]; sdg q[0]; tdg q[0]; and in 3.0 gphase(pi/4); for W.
  * A circuit's first statement acts first, so it is the word's rightmost letter.
  *
- * Writes the circuit of the word's letters I H S X W T into buf, by h, s, t, x and gphase; I is left out. Room for 47 bytes
- * and 8 for each letter always does in 2.0; DUNROSSEL_CIRCUIT does in both. out: place of a refusal 2 or 10 (else 0), bytes
- * written.
+ * Writes the circuit of the word's letters I H S X W T into buf, by h, s, t, x and gphase; I is left out. DUNROSSEL_CIRCUIT
+ * bytes always do. out: place of a refusal 2 or 10 (else 0), bytes written.
  * Refuses 1, 2, 10, 7 in 2.0, and 1, 2, 7 in 3.0. */
 uint8_t dunrossel_qasm2_write(const uint8_t *word, size_t len, uint8_t *buf, size_t room, uint64_t out[2]);
 uint8_t dunrossel_qasm3_write(const uint8_t *word, size_t len, uint8_t *buf, size_t room, uint64_t out[2]);

@@ -5,8 +5,9 @@ use Prim.Native.Nat.{ℕ, _+_, _<_, _≤_}
 use native.Mathlib.Omega.{arith}
 use mir.Syntax.{w64}
 use mir.Val.{Fits}
+use lib.Dec.{lit≤}
 use lib.ListN.{length, length-append}
-use Rattle.exact.specs.Meaning.Word.{W, byte, job2, FirstOutside, First, Spelled}
+use Rattle.exact.specs.Meaning.Word.{Letter as Gate, W, byte, job2, FirstOutside, First, Spelled}
 use Rattle.exact.specs.Meaning.Limits.{longest, Long, Letter, Phase, Room}
 use Rattle.exact.specs.Meaning.Outcome.{Rung}
 use Rattle.exact.specs.Meaning.Lent.{lent, untouched}
@@ -108,3 +109,11 @@ phase-refused w old r d n q s l f m e =
     subst (λ x. WriteOutcome (editionOf x) w old r old) (sym q)
     (Rung.passed (λ i h. omega (arith, h .0))
     (Rung.passed (inside w old r old s) (Rung.given n (record { there = m; is = f .there m; before = f .before }) (stays old e))))
+
+-- ---- room that is always enough: 50 bytes of header, and 14 for each letter
+pub circuit-enough : (e : Edition) (u : List Gate) → length u ≤ longest → length (text e (circuit u)) ≤ 57394
+circuit-enough e u l = omega (arith, length-append (header e) (lines (circuit u)), size-most u, header-few e)
+  where
+    header-few : (e : Edition) → length (header e) ≤ 50
+    header-few two = lit≤ tt
+    header-few three = lit≤ tt
