@@ -16,7 +16,19 @@ static void check(const char *what, int right)
 }
 
 enum { MANY = 11014144 }; /* 4,096 once it is cut to 16 bits */
-static uint8_t many[MANY], lent[MANY];
+static uint8_t many[MANY], lent[1 << 16];
+
+static void lend(void)
+{
+    memset(lent, '.', sizeof lent);
+}
+
+static void untouched_from(size_t bytes)
+{
+    size_t touched = 0;
+    for (size_t i = bytes; i < sizeof lent; i++) touched += lent[i] != '.';
+    check("lent memory untouched beyond the answer", touched == 0);
+}
 
 /* ---- jobs 3 and 5 */
 
@@ -25,25 +37,22 @@ typedef uint8_t writer(const uint8_t *, size_t, uint8_t *, size_t, uint64_t *);
 static void refused(writer *job, size_t len, size_t room, uint8_t number, uint64_t place)
 {
     uint64_t out[3] = {7, 7, 7};
-    size_t touched = 0;
-    memset(lent, '.', sizeof lent);
+    lend();
     uint8_t refusal = job(many, len, lent, room, out);
-    for (size_t i = 0; i < sizeof lent; i++) touched += lent[i] != '.';
     printf("%lu letters, room %lu: refusal=%d place=%d\n", (unsigned long)len, (unsigned long)room, refusal, (int)out[0]);
     check("refusal", refusal == number && out[0] == place && out[1] == 0 && out[2] == 0);
-    check("lent memory untouched", touched == 0);
+    untouched_from(0);
 }
 
 static void filled(writer *job, size_t len, size_t room, const char *expected)
 {
     uint64_t out[3] = {7, 7, 7};
-    size_t bytes = strlen(expected), touched = 0;
-    memset(lent, '.', sizeof lent);
+    size_t bytes = strlen(expected);
+    lend();
     uint8_t refusal = job(many, len, lent, room, out);
-    for (size_t i = bytes; i < sizeof lent; i++) touched += lent[i] != '.';
     printf("%lu letters, room %lu: refusal=%d bytes=%d\n", (unsigned long)len, (unsigned long)room, refusal, (int)out[1]);
     check("accepted", refusal == 0 && out[0] == 0 && out[1] == bytes && memcmp(lent, expected, bytes) == 0);
-    check("nothing beyond the length", touched == 0);
+    untouched_from(bytes);
 }
 
 static void words(const char *what, writer *job, const char *hsh)
@@ -103,14 +112,13 @@ static void matrices(void)
 static void synthesised(const int64_t m[10], size_t room, uint8_t number)
 {
     uint64_t out[3] = {7, 7, 7};
-    size_t bytes = number ? 0 : 239, touched = 0;
-    memset(lent, '.', sizeof lent);
+    size_t bytes = number ? 0 : 239;
+    lend();
     uint8_t refusal = dunrossel_synthesise(m[0], (uint8_t)m[1], m + 2, lent, room, out);
-    for (size_t i = bytes; i < sizeof lent; i++) touched += lent[i] != '.';
     printf("k=60, room %lu: refusal=%d bytes=%d t=%d\n", (unsigned long)room, refusal, (int)out[1], (int)out[2]);
     check("synthesise", refusal == number && out[0] == 0 && out[1] == bytes && out[2] == bytes / 2);
     check("the word", memcmp(lent, many, bytes) == 0);
-    check("nothing beyond the length", touched == 0);
+    untouched_from(bytes);
 }
 
 static void synthesis(void)
@@ -136,7 +144,7 @@ static void triple(const char *what, int64_t k, const int64_t zw[8], uint8_t num
     uint64_t out[3] = {7, 7, 7};
     memset(ten, 1, sizeof ten);
     memset(view, 1, sizeof view);
-    memset(lent, '.', DUNROSSEL_ENOUGH);
+    lend();
     uint8_t refusal = dunrossel_reduce(k, 0, zw, ten);
     printf("%s: refusal=%d\n", what, refusal);
     check("reduce refuses", refusal == number);
@@ -145,7 +153,7 @@ static void triple(const char *what, int64_t k, const int64_t zw[8], uint8_t num
     for (int i = 0; i < 10; i++) check("numbers of a refusal are 0", ten[i] == 0);
     for (int i = 0; i < 8; i++) check("view of a refusal is 0", view[i] == 0);
     check("counts of a refusal are 0", out[0] == 0 && out[1] == 0 && out[2] == 0);
-    for (int i = 0; i < DUNROSSEL_ENOUGH; i++) check("lent memory untouched", lent[i] == '.');
+    untouched_from(0);
 }
 
 static void triples(void)
