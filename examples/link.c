@@ -59,6 +59,23 @@ static void there_and_back(void)
     word("word of that matrix", refusal, buf, out, (const char *)first);
 }
 
+/* A word's circuit, and the letters that are read from it: those of the word, but for I. */
+static void circuits(void)
+{
+    const uint8_t *given = (const uint8_t *)"HTIW";
+    const char *expected = "OPENQASM 3.0;\ninclude \"stdgates.inc\";\nqubit[1] q;\ngphase(pi/4);\nt q[0];\nh q[0];\n";
+    uint8_t text[DUNROSSEL_CIRCUIT], buf[DUNROSSEL_LETTERS];
+    uint64_t out[2];
+    uint8_t refusal = dunrossel_qasm3_write(given, 4, text, sizeof text, out);
+    size_t bytes = out[1];
+    printf("circuit of HTIW: refusal=%d\n%.*s", refusal, (int)bytes, (const char *)text);
+    check("circuit", refusal == 0 && bytes == strlen(expected) && memcmp(text, expected, bytes) == 0);
+    refusal = dunrossel_qasm_read(text, bytes, buf, sizeof buf, out);
+    printf("its letters: refusal=%d word=%.*s\n", refusal, (int)out[1], (const char *)buf);
+    check("letters", refusal == 0 && out[1] == 3 && memcmp(buf, "HTW", 3) == 0);
+    check("no W in 2.0", dunrossel_qasm2_write(given, 4, text, sizeof text, out) == DUNROSSEL_PHASE && out[0] == 3);
+}
+
 static void numbers(void)
 {
     const int64_t h[8] = {0, 0, 0, 1, 0, 0, 0, 1};
@@ -92,6 +109,7 @@ int main(void)
 {
     words();
     there_and_back();
+    circuits();
     numbers();
     bench();
     printf("link.c: %d wrong\n", wrong);

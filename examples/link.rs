@@ -18,6 +18,9 @@ mod ffi {
         pub fn dunrossel_clifford_coset(x: *const [i32; 4], out: *mut [i32; 5]);
         pub fn dunrossel_view(k: i64, n: u8, zw: *const [i64; 8], out: *mut [f64; 8]) -> u8;
         pub fn dunrossel_bench(record: *const u8, len: usize, out: *mut [u8; 512]) -> usize;
+        pub fn dunrossel_qasm2_write(word: *const u8, len: usize, buf: *mut u8, room: usize, out: *mut [u64; 2]) -> u8;
+        pub fn dunrossel_qasm3_write(word: *const u8, len: usize, buf: *mut u8, room: usize, out: *mut [u64; 2]) -> u8;
+        pub fn dunrossel_qasm_read(text: *const u8, len: usize, buf: *mut u8, room: usize, out: *mut [u64; 2]) -> u8;
     }
 }
 
@@ -85,6 +88,31 @@ fn synthesise(m: &Triple, room: usize) -> Result<String, Refused> {
     written(number, &buf, out)
 }
 
+/// The type that the three calls for circuits share.
+type Circuits = unsafe extern "C" fn(*const u8, usize, *mut u8, usize, *mut [u64; 2]) -> u8;
+
+/// Room enough for any circuit, and for the letters of one.
+const CIRCUIT: usize = 57394;
+
+fn circuits(call: Circuits, given: &str) -> Result<String, Refused> {
+    let (mut buf, mut out) = (vec![0; CIRCUIT], [0; 2]);
+    let number = unsafe { call(given.as_ptr(), given.len(), buf.as_mut_ptr(), CIRCUIT, &mut out) };
+    buf.truncate(out[1] as usize);
+    answer(number, out[0], String::from_utf8(buf).unwrap())
+}
+
+fn qasm2(word: &str) -> Result<String, Refused> {
+    circuits(ffi::dunrossel_qasm2_write, word)
+}
+
+fn qasm3(word: &str) -> Result<String, Refused> {
+    circuits(ffi::dunrossel_qasm3_write, word)
+}
+
+fn letters(circuit: &str) -> Result<String, Refused> {
+    circuits(ffi::dunrossel_qasm_read, circuit)
+}
+
 fn view(m: &Triple) -> Result<[f64; 8], Refused> {
     let (k, n, zw) = parts(m);
     let mut out = [0.0; 8];
@@ -111,6 +139,16 @@ fn cliffords() {
     assert_eq!((product, identity, parted), ([2, 0, 0, 3], [0; 4], [2, 0, 0, 0, 0]));
 }
 
+fn there_and_back() {
+    let text = qasm3("HTIW").unwrap();
+    print!("{text}");
+    assert_eq!(text, "OPENQASM 3.0;\ninclude \"stdgates.inc\";\nqubit[1] q;\ngphase(pi/4);\nt q[0];\nh q[0];\n");
+    assert_eq!(letters(&text).as_deref(), Ok("HTW"));
+    assert_eq!(letters(&qasm2("HTIX").unwrap()).as_deref(), Ok("HTX"));
+    assert_eq!(qasm2("HTIW"), Err(Refused { number: 10, place: 3 }));
+    assert_eq!(letters("OPENQASM 2.0;\r\n"), Err(Refused { number: 9, place: 13 }));
+}
+
 fn main() {
     for (word, normal) in [("", "I"), ("T", "TI"), ("HSH", "SHXSSSW"), ("SHTT", "SHS"), ("XT", "TXSWWWWWWW")] {
         println!("normalise {word}: {:?}", normalise(word, ENOUGH));
@@ -129,6 +167,7 @@ fn main() {
     println!("H: {h:?}, {:?}", view(&h).unwrap());
     assert!((view(&h).unwrap()[0] - std::f64::consts::FRAC_1_SQRT_2).abs() < 1e-15);
     cliffords();
+    there_and_back();
 
     let text = bench("k=1\nn=4\nz=0,0,0,1\nw=0,0,0,1\n");
     print!("{text}");

@@ -16,7 +16,19 @@ static void check(const char *what, int right)
 }
 
 enum { MANY = 11014144 }; /* 4,096 once it is cut to 16 bits */
-static uint8_t many[MANY], lent[MANY];
+static uint8_t many[MANY], lent[1 << 16];
+
+static void lend(void)
+{
+    memset(lent, '.', sizeof lent);
+}
+
+static void untouched_from(size_t bytes)
+{
+    size_t touched = 0;
+    for (size_t i = bytes; i < sizeof lent; i++) touched += lent[i] != '.';
+    check("lent memory untouched beyond the answer", touched == 0);
+}
 
 /* ---- jobs 3 and 5 */
 
@@ -25,25 +37,22 @@ typedef uint8_t writer(const uint8_t *, size_t, uint8_t *, size_t, uint64_t *);
 static void refused(writer *job, size_t len, size_t room, uint8_t number, uint64_t place)
 {
     uint64_t out[3] = {7, 7, 7};
-    size_t touched = 0;
-    memset(lent, '.', sizeof lent);
+    lend();
     uint8_t refusal = job(many, len, lent, room, out);
-    for (size_t i = 0; i < sizeof lent; i++) touched += lent[i] != '.';
     printf("%lu letters, room %lu: refusal=%d place=%d\n", (unsigned long)len, (unsigned long)room, refusal, (int)out[0]);
     check("refusal", refusal == number && out[0] == place && out[1] == 0 && out[2] == 0);
-    check("lent memory untouched", touched == 0);
+    untouched_from(0);
 }
 
 static void filled(writer *job, size_t len, size_t room, const char *expected)
 {
     uint64_t out[3] = {7, 7, 7};
-    size_t bytes = strlen(expected), touched = 0;
-    memset(lent, '.', sizeof lent);
+    size_t bytes = strlen(expected);
+    lend();
     uint8_t refusal = job(many, len, lent, room, out);
-    for (size_t i = bytes; i < sizeof lent; i++) touched += lent[i] != '.';
     printf("%lu letters, room %lu: refusal=%d bytes=%d\n", (unsigned long)len, (unsigned long)room, refusal, (int)out[1]);
     check("accepted", refusal == 0 && out[0] == 0 && out[1] == bytes && memcmp(lent, expected, bytes) == 0);
-    check("nothing beyond the length", touched == 0);
+    untouched_from(bytes);
 }
 
 static void words(const char *what, writer *job, const char *hsh)
@@ -103,14 +112,13 @@ static void matrices(void)
 static void synthesised(const int64_t m[10], size_t room, uint8_t number)
 {
     uint64_t out[3] = {7, 7, 7};
-    size_t bytes = number ? 0 : 239, touched = 0;
-    memset(lent, '.', sizeof lent);
+    size_t bytes = number ? 0 : 239;
+    lend();
     uint8_t refusal = dunrossel_synthesise(m[0], (uint8_t)m[1], m + 2, lent, room, out);
-    for (size_t i = bytes; i < sizeof lent; i++) touched += lent[i] != '.';
     printf("k=60, room %lu: refusal=%d bytes=%d t=%d\n", (unsigned long)room, refusal, (int)out[1], (int)out[2]);
     check("synthesise", refusal == number && out[0] == 0 && out[1] == bytes && out[2] == bytes / 2);
     check("the word", memcmp(lent, many, bytes) == 0);
-    check("nothing beyond the length", touched == 0);
+    untouched_from(bytes);
 }
 
 static void synthesis(void)
@@ -136,7 +144,7 @@ static void triple(const char *what, int64_t k, const int64_t zw[8], uint8_t num
     uint64_t out[3] = {7, 7, 7};
     memset(ten, 1, sizeof ten);
     memset(view, 1, sizeof view);
-    memset(lent, '.', DUNROSSEL_ENOUGH);
+    lend();
     uint8_t refusal = dunrossel_reduce(k, 0, zw, ten);
     printf("%s: refusal=%d\n", what, refusal);
     check("reduce refuses", refusal == number);
@@ -145,7 +153,7 @@ static void triple(const char *what, int64_t k, const int64_t zw[8], uint8_t num
     for (int i = 0; i < 10; i++) check("numbers of a refusal are 0", ten[i] == 0);
     for (int i = 0; i < 8; i++) check("view of a refusal is 0", view[i] == 0);
     check("counts of a refusal are 0", out[0] == 0 && out[1] == 0 && out[2] == 0);
-    for (int i = 0; i < DUNROSSEL_ENOUGH; i++) check("lent memory untouched", lent[i] == '.');
+    untouched_from(0);
 }
 
 static void triples(void)
@@ -193,6 +201,203 @@ static void records(void)
     bench("many more", MANY, malformed);
 }
 
+/* ---- circuits */
+
+#define TWO "OPENQASM 2.0;\ninclude \"qelib1.inc\";\nqreg q[1];\n"
+#define THREE "OPENQASM 3.0;\ninclude \"stdgates.inc\";\nqubit[1] q;\n"
+
+enum { LINE = 8, LEAD = sizeof THREE - 1 };
+static uint8_t text[LEAD + LINE * (size_t)MANY];
+
+/* A call's whole answer: of out it may write only its two numbers. */
+static void circuit(writer *job, const void *given, size_t len, size_t room, uint8_t number, uint64_t place, const void *expected, size_t bytes)
+{
+    uint64_t out[3] = {7, 7, 7};
+    lend();
+    uint8_t refusal = job(given, len, lent, room, out);
+    printf("%lu bytes, room %lu: refusal=%d place=%d bytes=%d\n", (unsigned long)len, (unsigned long)room, refusal, (int)out[0], (int)out[1]);
+    check("refusal", refusal == number && out[0] == place);
+    check("answer", out[1] == bytes && memcmp(lent, expected, bytes) == 0);
+    check("nothing beyond two numbers", out[2] == 7);
+    untouched_from(bytes);
+}
+
+static void denied(writer *job, const void *given, size_t len, size_t room, uint8_t number, uint64_t place)
+{
+    circuit(job, given, len, room, number, place, "", 0);
+}
+
+/* Taken with just room enough, and with a byte less refused. */
+static void exactly(writer *job, const void *given, size_t len, const void *expected, size_t bytes)
+{
+    circuit(job, given, len, bytes, 0, 0, expected, bytes);
+    if (bytes) denied(job, given, len, bytes - 1, DUNROSSEL_ROOM, 0);
+    if (bytes) denied(job, given, len, 0, DUNROSSEL_ROOM, 0);
+}
+
+/* Puts a line a number of times behind those that the text has, and gives its new length. */
+static size_t put(size_t at, const char *line, size_t times)
+{
+    for (size_t size = strlen(line); times; times--, at += size) memcpy(text + at, line, size);
+    return at;
+}
+
+static void writing(const char *header, writer *job)
+{
+    size_t head = put(0, header, 1), full = put(head, "h q[0];\n", 4096);
+    printf("writing %.12s\n", header);
+    memset(many, 'H', sizeof many);
+    denied(job, many, MANY, sizeof lent, DUNROSSEL_LONG, 0);
+    exactly(job, many, 4096, text, full);
+    many[9] = 'Z';
+    many[3] = 'W';
+    denied(job, many, 4097, 0, DUNROSSEL_LONG, 0);
+    denied(job, many, 4096, 0, DUNROSSEL_LETTER, 9);
+    memset(many, 'I', 4097);
+    denied(job, many, 4097, sizeof lent, DUNROSSEL_LONG, 0);
+    exactly(job, many, 4096, header, head);
+    exactly(job, NULL, 0, header, head);
+    many[4095] = 0;
+    denied(job, many, 4096, sizeof lent, DUNROSSEL_LETTER, 4095);
+    uint64_t out[2] = {7, 7};
+    check("no letter and no room", job(NULL, 0, NULL, 0, out) == DUNROSSEL_ROOM && out[0] == 0 && out[1] == 0);
+}
+
+static void phases(void)
+{
+    const char *spelt = THREE "gphase(pi/4);\nx q[0];\ngphase(pi/4);\nt q[0];\n";
+    writer *two = dunrossel_qasm2_write, *three = dunrossel_qasm3_write;
+    printf("phases\n");
+    denied(two, "TWIXW", 5, 0, DUNROSSEL_PHASE, 1);
+    denied(two, "TWIXw", 5, 0, DUNROSSEL_LETTER, 4);
+    exactly(three, "TWIXW", 5, spelt, strlen(spelt));
+    memset(many, 'X', 4095);
+    many[4095] = 'W';
+    denied(two, many, 4096, sizeof lent, DUNROSSEL_PHASE, 4095);
+    memset(many, 'W', 4096);
+    denied(two, many, 4096, sizeof lent, DUNROSSEL_PHASE, 0);
+    put(put(0, THREE, 1), "gphase(pi/4);\n", 4096);
+    exactly(three, many, 4096, text, DUNROSSEL_CIRCUIT);
+}
+
+/* The longest word, written and read back. */
+static void back(void)
+{
+    static uint8_t spelt[DUNROSSEL_CIRCUIT], without[DUNROSSEL_LETTERS];
+    uint64_t out[2];
+    size_t bytes = 0;
+    for (size_t i = 0; i < 4096; i++) {
+        many[i] = (uint8_t)"HSXWTI"[i % 6];
+        if (many[i] != 'I') without[bytes++] = many[i];
+    }
+    check("the longest word written", dunrossel_qasm3_write(many, 4096, spelt, sizeof spelt, out) == 0);
+    exactly(dunrossel_qasm_read, spelt, out[1], without, bytes);
+}
+
+/* Of h lines that stand from LEAD on: the header is put so that it ends there. */
+static void reading(const char *header)
+{
+    size_t head = strlen(header);
+    const uint8_t *start = text + LEAD - head;
+    writer *job = dunrossel_qasm_read;
+    uint64_t out[2] = {7, 7};
+    printf("reading %.12s\n", header);
+    put(LEAD - head, header, 1);
+    memset(many, 'H', 4096);
+    denied(job, start, head + LINE * (size_t)MANY, sizeof lent, DUNROSSEL_LONG, 0);
+    denied(job, start, head + LINE * (size_t)MANY - 1, 0, DUNROSSEL_STATEMENT, head + LINE * (size_t)MANY - 1);
+    denied(job, start, head + LINE * 4097, 0, DUNROSSEL_LONG, 0);
+    denied(job, start, head + LINE * 4097, sizeof lent, DUNROSSEL_LONG, 0);
+    exactly(job, start, head + LINE * 4096, many, 4096);
+    denied(job, start, head + LINE * 4096 - 1, 0, DUNROSSEL_STATEMENT, head + LINE * 4096 - 1);
+    exactly(job, start, head, "", 0);
+    check("the empty word into no memory", job(start, head, NULL, 0, out) == 0 && out[0] == 0 && out[1] == 0);
+    out[0] = out[1] = 7;
+    check("no text", job(NULL, 0, NULL, 0, out) == DUNROSSEL_STATEMENT && out[0] == 0 && out[1] == 0);
+}
+
+/* h lines, and then one that is read as several letters, so that these come leftmost. */
+static void step(size_t plain, const char *line, const char *letters)
+{
+    size_t len = put(put(put(0, THREE, 1), "h q[0];\n", plain), line, 1), bytes = strlen(letters);
+    memset(many, 'H', 4099);
+    memcpy(many, letters, bytes);
+    if (plain + bytes > 4096)
+        denied(dunrossel_qasm_read, text, len, sizeof lent, DUNROSSEL_LONG, 0);
+    else
+        exactly(dunrossel_qasm_read, text, len, many, plain + bytes);
+}
+
+static void steps(void)
+{
+    printf("sdg and tdg\n");
+    for (size_t plain = 4092; plain <= 4096; plain++) {
+        step(plain, "sdg q[0];\n", "SSS");
+        step(plain, "tdg q[0];\n", "TSSS");
+    }
+    for (size_t i = 0; i < 4096; i++) many[i] = i % 4 ? 'S' : 'T';
+    exactly(dunrossel_qasm_read, text, put(put(0, TWO, 1), "tdg q[0];\n", 1024), many, 4096);
+    /* 4,096 letters once they are cut to 16 bits, and 0 */
+    denied(dunrossel_qasm_read, text, put(put(0, TWO, 1), "tdg q[0];\n", 17408), sizeof lent, DUNROSSEL_LONG, 0);
+    denied(dunrossel_qasm_read, text, put(put(0, TWO, 1), "tdg q[0];\n", 16384), sizeof lent, DUNROSSEL_LONG, 0);
+}
+
+static const struct { const char *text; uint64_t place; } broken[] = {
+    {"", 0},
+    {"\n" TWO, 0},
+    {"OPENQASM 4.0;\n", 9},
+    {"OPENQASM 2.0;\r\n", 13},
+    {"OPENQASM 2.0;\ninclude \"stdgates.inc\";\nqreg q[1];\n", 23},
+    {"OPENQASM 2.0;\ninclude \"qelib1.inc\";\nqubit[1] q;\n", 37},
+    {"OPENQASM 3.0;\ninclude \"qelib1.inc\";\nqubit[1] q;\n", 23},
+    {"OPENQASM 3.0;\ninclude \"stdgates.inc\";\nqreg q[1];\n", 39},
+    {TWO "gphase(pi/4);\n", 47},
+    {TWO "h q[0];\ngphase(pi/4);\n", 55},
+    {TWO "h q[0];\r\n", 54},
+    {TWO "h q[0];\n\n", 55},
+    {TWO "h q[0];\n ", 55},
+    {TWO "h  q[0];\n", 49},
+    {TWO "H q[0];\n", 47},
+    {TWO "h q[1];\n", 51},
+    {TWO "hdg q[0];\n", 48},
+    {TWO "st q[0];\n", 48},
+    {TWO "sdg q[0]\n", 55},
+    {THREE "gphase(-pi/4);\n", 57},
+    {THREE "gphase(pi/2);\n", 60},
+    {THREE "gphase(pi/4);\r\n", 63},
+    {THREE THREE, 50},
+};
+
+static void places(void)
+{
+    const char *whole = THREE "tdg q[0];\ngphase(pi/4);\nx q[0];\n";
+    writer *job = dunrossel_qasm_read;
+    printf("places\n");
+    for (size_t i = 0; i < sizeof broken / sizeof *broken; i++)
+        denied(job, broken[i].text, strlen(broken[i].text), 0, DUNROSSEL_STATEMENT, broken[i].place);
+    denied(job, whole, strlen(whole) + 1, sizeof lent, DUNROSSEL_STATEMENT, strlen(whole)); /* its zero */
+    for (size_t cut = 0; cut <= strlen(whole); cut++) {
+        const char *letters = cut == 50 ? "" : cut == 60 ? "TSSS" : cut == 74 ? "WTSSS" : cut == 82 ? "XWTSSS" : NULL;
+        if (letters)
+            exactly(job, whole, cut, letters, strlen(letters));
+        else
+            denied(job, whole, cut, sizeof lent, DUNROSSEL_STATEMENT, cut);
+    }
+}
+
+static void circuits(void)
+{
+    writing(TWO, dunrossel_qasm2_write);
+    writing(THREE, dunrossel_qasm3_write);
+    phases();
+    back();
+    put(LEAD, "h q[0];\n", MANY);
+    reading(TWO);
+    reading(THREE);
+    steps();
+    places();
+}
+
 int main(void)
 {
     words("normalise", dunrossel_normalise, "SHXSSSW");
@@ -201,6 +406,7 @@ int main(void)
     synthesis();
     triples();
     records();
+    circuits();
     printf("limits.c: %d wrong\n", wrong);
     return wrong != 0;
 }

@@ -1,3 +1,11 @@
 /* As much of <stdio.h> as the C programs here need, for x86-64: see tools/kit. */
 #pragma once
+#include <stddef.h>
+typedef struct file FILE;
+extern FILE *stdin, *stdout, *stderr;
 int printf(const char *format, ...);
+int fprintf(FILE *to, const char *format, ...);
+size_t fread(void *to, size_t size, size_t many, FILE *from);
+size_t fwrite(const void *from, size_t size, size_t many, FILE *to);
+int fflush(FILE *to);
+int ferror(FILE *file);

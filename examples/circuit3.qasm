@@ -1,0 +1,12 @@
+OPENQASM 3.0;
+include "stdgates.inc";
+qubit[1] q;
+gphase(pi/4);
+s q[0];
+s q[0];
+s q[0];
+x q[0];
+h q[0];
+s q[0];
+t q[0];
+h q[0];
