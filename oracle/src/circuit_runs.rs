@@ -8,7 +8,7 @@ use crate::report::Report;
 use crate::words::Rooms;
 
 /// The edition's circuits of so many statements.
-fn circuits(edition: Edition, len: u32) -> impl Iterator<Item = Circuit> {
+pub fn circuits(edition: Edition, len: u32) -> impl Iterator<Item = Circuit> {
     let all = edition.statements();
     let of = move |code: usize| (0..len).map(|i| &all[code / all.len().pow(i) % all.len()]).collect();
     (0..all.len().pow(len)).map(of)
@@ -38,15 +38,15 @@ fn bytes() -> Vec<u8> {
 }
 
 /// A text without its byte at a place, with it twice, cut there, or with another in its place.
-fn deleted(text: &[u8], at: usize) -> Vec<u8> {
+pub fn deleted(text: &[u8], at: usize) -> Vec<u8> {
     [&text[..at], &text[at + 1..]].concat()
 }
 
-fn doubled(text: &[u8], at: usize) -> Vec<u8> {
+pub fn doubled(text: &[u8], at: usize) -> Vec<u8> {
     [&text[..=at], &text[at..]].concat()
 }
 
-fn replaced(text: &[u8], at: usize, byte: u8) -> Vec<u8> {
+pub fn replaced(text: &[u8], at: usize, byte: u8) -> Vec<u8> {
     [&text[..at], &[byte], &text[at + 1..]].concat()
 }
 
@@ -80,13 +80,17 @@ fn lines(text: &[u8]) -> Vec<&[u8]> {
     text.split_inclusive(|b| *b == b'\n').collect()
 }
 
+/// The eight heads whose lines are each of either edition.
+pub fn mixed_heads() -> impl Iterator<Item = Vec<u8>> {
+    let both = EDITIONS.map(|edition| lines(edition.head()));
+    (0..8).map(move |mix| (0..3).flat_map(|i| both[mix >> i & 1][i]).copied().collect())
+}
+
 /// Heads of both editions mixed, lines lost, doubled and exchanged, other line ends, and what others write.
 pub fn heads(report: &mut Report) {
     let bodies = [0usize, 6, 7].map(|n| STATEMENTS[..n].iter().flat_map(|s| s.line).copied().collect::<Vec<u8>>());
-    let both = EDITIONS.map(|edition| lines(edition.head()));
     for body in &bodies {
-        for mix in 0..8 {
-            let head: Vec<u8> = (0..3).flat_map(|i| both[mix >> i & 1][i]).copied().collect();
+        for head in mixed_heads() {
             read(report, &[head.as_slice(), body].concat(), Rooms::All);
         }
         for edition in EDITIONS {

@@ -20,6 +20,7 @@ mod report;
 mod runs;
 mod rust;
 mod sample;
+mod sample_circuits;
 mod triples;
 mod view;
 mod words;
