@@ -7,6 +7,9 @@ use crate::qasm::{self, Edition, EDITIONS};
 use crate::report::Report;
 use crate::words::{fitting, refusal, rooms, Rooms, LONGEST};
 
+/// The bytes of an answer given room, or a refusal and its place.
+pub type Answered = Result<Vec<u8>, (u8, usize)>;
+
 /// Up to so many letters a circuit's matrix is compared with that of its letters.
 const SHORT: usize = 64;
 
@@ -16,7 +19,7 @@ fn shown(bytes: &[u8]) -> String {
 }
 
 /// The text of a word, or the writer's refusals but 7, in their order.
-pub fn text_of(edition: Edition, word: &[u8]) -> Result<Vec<u8>, (u8, usize)> {
+pub fn text_of(edition: Edition, word: &[u8]) -> Answered {
     if let Some(refused) = refusal(word, JOB_2) {
         return Err(refused);
     }
@@ -28,7 +31,7 @@ pub fn text_of(edition: Edition, word: &[u8]) -> Result<Vec<u8>, (u8, usize)> {
 }
 
 /// The letters of a text, or the reader's refusals but 7, in their order.
-pub fn letters_of(text: &[u8]) -> Result<Vec<u8>, (u8, usize)> {
+pub fn letters_of(text: &[u8]) -> Answered {
     if let Some(place) = qasm::stops(text) {
         return Err((9, place));
     }
@@ -39,7 +42,7 @@ pub fn letters_of(text: &[u8]) -> Result<Vec<u8>, (u8, usize)> {
     Ok(letters)
 }
 
-pub fn answer(of: &Result<Vec<u8>, (u8, usize)>, room: usize) -> Written {
+pub fn answer(of: &Answered, room: usize) -> Written {
     match of {
         Ok(bytes) => fitting(bytes, room),
         Err((number, place)) => Written::refused(*number, *place),
@@ -47,7 +50,7 @@ pub fn answer(of: &Result<Vec<u8>, (u8, usize)>, room: usize) -> Written {
 }
 
 /// An accepted answer's rooms are around it; a refusal is tried with room and with none.
-fn rooms_of(of: &Result<Vec<u8>, (u8, usize)>, which: Rooms, turn: usize) -> Vec<usize> {
+fn rooms_of(of: &Answered, which: Rooms, turn: usize) -> Vec<usize> {
     match (of, which) {
         (Ok(bytes), _) => rooms(which, bytes.len(), turn),
         (Err(_), Rooms::All) => vec![376, 5000, 0],
@@ -119,7 +122,7 @@ pub fn read(report: &mut Report, text: &[u8], which: Rooms) {
 }
 
 /// The two ways to say what a right text is agree, and the letters have the circuit's matrix.
-fn exact(report: &mut Report, text: &[u8], letters: &Result<Vec<u8>, (u8, usize)>) {
+fn exact(report: &mut Report, text: &[u8], letters: &Answered) {
     let circuit = qasm::circuit(text);
     if circuit.is_none() != matches!(letters, Err((9, _))) {
         report.differs("qasm", format!("{}: right or not, by lines or by bytes", shown(text)));

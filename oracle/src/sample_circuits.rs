@@ -1,7 +1,7 @@
 //! The circuits of the replay sample: Q and G, a word written in 2.0 and in 3.0, and R, a text read.
 
 use crate::circuit_runs::{circuits, deleted, doubled, mixed_heads, replaced};
-use crate::circuits::{answer, letters_of, text_of};
+use crate::circuits::{answer, letters_of, text_of, Answered};
 use crate::inputs::{every_word, Random, JOB_2};
 use crate::qasm::{Circuit, Edition, EDITIONS, STATEMENTS};
 use crate::sample::Sample;
@@ -10,7 +10,7 @@ use crate::sample::Sample;
 const ROOM: usize = 20;
 
 /// With this much more or less room than the answer takes.
-fn add(s: &mut Sample, job: char, payload: &[u8], of: &Result<Vec<u8>, (u8, usize)>, more: isize) {
+fn add(s: &mut Sample, job: char, payload: &[u8], of: &Answered, more: isize) {
     let room = of.as_ref().map_or(ROOM, |bytes| bytes.len().saturating_add_signed(more));
     s.add_lent::<2>(job, room, payload, &answer(of, room));
 }
