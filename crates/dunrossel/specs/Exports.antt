@@ -19,6 +19,7 @@ use Rattle.clifford.specs.declared.Clifford.{Clifford}
 use Rattle.clifford.specs.declared.Coset.{Coset}
 use Rattle.synthesis_of_clifford_t.specs.declared.Synthesis.{Synthesis}
 use Rattle.synthesis_of_clifford_t.specs.Outcome.{SynthesiseOutcome}
+use Rattle.qasm.specs.declared.Written.{Written as Converted}
 use Rattle.view.specs.declared.matrix.View.{View}
 use Rattle.view.specs.declared.Answer.{Answer}
 use Rattle.view.specs.Meaning.Outcome.{ViewOutcome}
@@ -66,6 +67,14 @@ abbrev pub Synthesises : ℤ → ℕ → List ℤ → List ℕ → ℕ × (List 
 Synthesises k n zw old =
     HandsOn (λ (j : Lent Synthesis). SynthesiseOutcome k n (zOf zw) (wOf zw) old (j .handed) (j .buffer))
     (λ (j : Lent Synthesis). (j .handed .refusal, (countsOf (j .handed), j .buffer)))
+
+-- ---- circuits in lent bytes, and their letters: the refusal; place and bytes; the lent bytes at the end
+abbrev pub countsIn : Converted → List ℕ
+countsIn r = r .place ∷ r .bytes ∷ []
+
+abbrev pub Converts : (Converted → List ℕ → Type 0) → ℕ × (List ℕ × List ℕ) → Type 0
+Converts Job =
+    HandsOn (λ (j : Lent Converted). Job (j .handed) (j .buffer)) (λ (j : Lent Converted). (j .handed .refusal, (countsIn (j .handed), j .buffer)))
 
 -- ---- job 6: four numbers in, four out; the coset's five are the axis (0, 1 for H, 2 for SH) and the rest
 abbrev pub argument : List ℤ → Clifford

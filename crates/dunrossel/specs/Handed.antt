@@ -25,10 +25,12 @@ use Rattle.clifford.specs.declared.Clifford.{Clifford}
 use Rattle.clifford.specs.declared.Coset.{Coset}
 use Rattle.synthesis_of_clifford_t.specs.declared.Synthesis.{Synthesis}
 use Rattle.synthesis_of_clifford_t.specs.Outcome.{SynthesiseOutcome}
+use Rattle.qasm.specs.Meaning.{Edition, WriteOutcome, ReadOutcome}
+use Rattle.qasm.specs.declared.Written.{Written as Converted}
 use Rattle.view.specs.declared.Answer.{Answer}
 use Rattle.view.specs.Meaning.Outcome.{ViewOutcome}
 use Rattle.dunrossel.specs.declared.Four.{Four}
-use Rattle.dunrossel.specs.Exports.{zOf, wOf, ten, Reduces, Multiplies, eightOf, Views, counts, Writes, countsOf, Synthesises}
+use Rattle.dunrossel.specs.Exports.{zOf, wOf, ten, Reduces, Multiplies, eightOf, Views, counts, Writes, countsOf, Synthesises, countsIn, Converts}
 use Rattle.dunrossel.specs.Exports.{argument, fourOf, fiveOf, Multiplied, Inverted, Parted}
 
 -- ---- a byte as a signed number
@@ -85,6 +87,17 @@ multiplies w j out o e = record { job = j; outcome = o; is = λ i. (j .refusal, 
 pub writes : (Answer : List Letter → List Letter → Type 0) (w old new : List ℕ) (j : Written) (out : List ℕ) → WordOutcome Answer w old j new
     → out ≡ counts j → Writes Answer w old (j .refusal, (out, new))
 writes Answer w old new j out o e = record { job = lent j new; outcome = o; is = λ i. (j .refusal, (e i, new)) }
+
+converts : (Job : Converted → List ℕ → Type 0) (new : List ℕ) (j : Converted) (out : List ℕ) → Job j new → out ≡ countsIn j
+    → Converts Job (j .refusal, (out, new))
+converts Job new j out o e = record { job = lent j new; outcome = o; is = λ i. (j .refusal, (e i, new)) }
+
+module _ (old new : List ℕ) (j : Converted) (out : List ℕ) where
+  pub circuits : (e : Edition) (w : List ℕ) → WriteOutcome e w old j new → out ≡ countsIn j → Converts (WriteOutcome e w old) (j .refusal, (out, new))
+  circuits e w = converts (WriteOutcome e w old) new j out
+
+  pub lettersRead : (t : List ℕ) → ReadOutcome t old j new → out ≡ countsIn j → Converts (ReadOutcome t old) (j .refusal, (out, new))
+  lettersRead t = converts (ReadOutcome t old) new j out
 
 -- ---- Cliffords
 abbrev pub listed : List ℤ → Four

@@ -8,8 +8,10 @@ use Rattle.unitary.specs.Unique.{reduce-unique, matrix-unique}
 use Rattle.normal_form.specs.Outcome.{outcome-unique}
 use Rattle.clifford.specs.Job6.{Product-unique, Inverse-unique, Split-unique}
 use Rattle.synthesis_of_clifford_t.specs.Outcome.{synthesise-unique}
+use Rattle.qasm.specs.Meaning.{Edition, WriteOutcome, ReadOutcome}
+use Rattle.qasm.specs.Unique.{write-unique, read-unique}
 use Rattle.view.specs.Unique.{view-unique}
-use Rattle.dunrossel.specs.Exports.{zOf, wOf, Reduces, Multiplies, Views, Writes, Synthesises, argument, Multiplied, Inverted, Parted}
+use Rattle.dunrossel.specs.Exports.{zOf, wOf, Reduces, Multiplies, Views, Writes, Synthesises, Converts, argument, Multiplied, Inverted, Parted}
 
 pub reduces-unique : (k : ℤ) (n : ℕ) (zw : List ℤ) → Only (Reduces k n zw)
 reduces-unique k n zw = one-handed _ _ (reduce-unique k n (zOf zw) (wOf zw))
@@ -26,6 +28,12 @@ writes-unique Answer one w old = one-handed _ _ (λ r s. outcome-unique one w ol
 
 pub synthesises-unique : (k : ℤ) (n : ℕ) (zw : List ℤ) (old : List ℕ) → Only (Synthesises k n zw old)
 synthesises-unique k n zw old = one-handed _ _ (λ r s. synthesise-unique k n (zOf zw) (wOf zw) old (r .handed) (r .buffer) (s .handed) (s .buffer))
+
+pub circuit-unique : (e : Edition) (w old : List ℕ) → Only (Converts (WriteOutcome e w old))
+circuit-unique e w old = one-handed _ _ (λ r s. write-unique old r s e w)
+
+pub letters-unique : (t old : List ℕ) → Only (Converts (ReadOutcome t old))
+letters-unique t old = one-handed _ _ (λ r s. read-unique old r s t)
 
 pub multiplied-unique : (x y : List ℤ) → Only (Multiplied x y)
 multiplied-unique x y = one-handed _ _ (Product-unique (argument x) (argument y))

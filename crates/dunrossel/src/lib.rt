@@ -5,17 +5,19 @@ ghost use lib.ListN.{length};
 ghost use Rattle.exact.specs.Meaning.Limits.{enough};
 ghost use Rattle.exact.specs.Meaning.Lent.{lent};
 ghost use Rattle.dunrossel.specs.Exports.{zOf, wOf, ten, Reduces, Multiplies, eightOf, Views};
-ghost use Rattle.dunrossel.specs.Exports.{counts, Writes, countsOf, Synthesises};
+ghost use Rattle.dunrossel.specs.Exports.{counts, Writes, countsOf, Synthesises, countsIn, Converts};
 ghost use Rattle.dunrossel.specs.Exports.{fourOf, fiveOf, Multiplied, Inverted, Parted};
 ghost use Rattle.dunrossel.specs.Handed.{Wide, listed};
 ghost use Rattle.dunrossel.specs.Bench.{NumbersOutcome, BenchOutcome};
 ghost use Rattle.record.specs.Meaning.{numbers};
 ghost use Rattle.clifford.specs.Job6.{axisNumber};
 ghost use Rattle.normal_form.specs.Outcome.{Normalises, Shortens};
+ghost use Rattle.qasm.specs.Meaning.{two, three, WriteOutcome, ReadOutcome};
 use clifford::Axis;
 use clifford::Clifford;
 use clifford::Coset;
 use normal_form::Written;
+use qasm::Edition;
 use record::Record;
 use ring::ZOmega;
 use synthesis_of_clifford_t::Synthesis;
@@ -241,6 +243,39 @@ pub extern "C" fn dunrossel_synthesise(
     let w = w_of(zw);
     let answer = synthesis_of_clifford_t::synthesise(k, n, z, w, buf);
     put_synthesis(answer, out);
+    answer.refusal
+}
+
+fn put_pair(answer: qasm::Written, out: &mut [u64; 2])
+    ensures { λ r. ⌜ now (out .exit) ≡ countsIn answer ⌝ }
+{
+    *out = [answer.place as u64, answer.bytes as u64];
+}
+
+#[no_mangle]
+pub extern "C" fn dunrossel_qasm2_write(word: &[u8], buf: &mut [u8], out: &mut [u64; 2]) -> u8
+    ensures { λ r. ⌜ Converts (WriteOutcome two (now (word .entry)) (now (buf .entry))) (r, (now (out .exit), now (buf .exit))) ⌝ }
+{
+    let answer = qasm::write(Edition::Two, word, buf);
+    put_pair(answer, out);
+    answer.refusal
+}
+
+#[no_mangle]
+pub extern "C" fn dunrossel_qasm3_write(word: &[u8], buf: &mut [u8], out: &mut [u64; 2]) -> u8
+    ensures { λ r. ⌜ Converts (WriteOutcome three (now (word .entry)) (now (buf .entry))) (r, (now (out .exit), now (buf .exit))) ⌝ }
+{
+    let answer = qasm::write(Edition::Three, word, buf);
+    put_pair(answer, out);
+    answer.refusal
+}
+
+#[no_mangle]
+pub extern "C" fn dunrossel_qasm_read(text: &[u8], buf: &mut [u8], out: &mut [u64; 2]) -> u8
+    ensures { λ r. ⌜ Converts (ReadOutcome (now (text .entry)) (now (buf .entry))) (r, (now (out .exit), now (buf .exit))) ⌝ }
+{
+    let answer = qasm::read(text, buf);
+    put_pair(answer, out);
     answer.refusal
 }
 

@@ -1,4 +1,4 @@
--- What a reader must believe, and nothing else: definitions written from document 01 and the papers that it names.
+-- What a reader must believe, and nothing else: definitions written from documents 01 and 02 and the papers that they name.
 pub mod Number
 pub mod Matrix
 pub mod Word
@@ -8,6 +8,7 @@ pub mod Clifford
 pub mod Limits
 pub mod Endings
 pub mod Record
+pub mod Text
 pub mod Outcome
 pub mod Lent
 pub mod Refusals

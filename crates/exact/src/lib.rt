@@ -1,4 +1,4 @@
-// Document 01's numbers: its limits and its refusals. The mathematics that every contract cites stands in specs/.
+// Document 01's limits, and the refusals of documents 01 and 02 by number. The mathematics that every contract cites stands in specs/.
 
 // A word's letters, and a reading's syllables.
 pub const LONGEST: usize = 4096;
@@ -26,3 +26,7 @@ pub const DEEP: u8 = 6;
 pub const ROOM: u8 = 7;
 
 pub const RECORD: u8 = 8;
+
+pub const STATEMENT: u8 = 9;
+
+pub const PHASE: u8 = 10;

@@ -1,5 +1,5 @@
 -- The ways out of jobs 3 and 5: a lemma for each, over plain values. Assumes nothing.
-use mathlib.Core.Path.{_≡_, refl, sym, ap, ap₂, subst}
+use mathlib.Core.Path.{_≡_, refl, sym, ap, subst}
 use mathlib.Core.List.{List}
 use Prim.Native.Nat.{ℕ, _<_, _≤_}
 use native.Mathlib.Omega.{arith}
@@ -33,13 +33,11 @@ RoomOutcome Answer old r new = Lent.Written bytes counts Answer old refused (len
 -- the answer is v alone
 module _ (v : List Gate) (old : List ℕ) (r : Written) where
   pub no-room : length old < length (bytes v) → r ≡ refused Room 0 → RoomOutcome (λ x. x ≡ v) old r old
-  no-room l e = Rung.given 0 (record { v = v; answer = refl; more = l }, refl) (stays old e)
+  no-room = Lent.no-room bytes counts v old refused r
 
   pub written-whole : (new : List ℕ) → length (bytes v) ≤ length old → r ≡ counts v → new ≡ over (bytes v) old
       → RoomOutcome (λ x. x ≡ v) old r new
-  written-whole new l e f =
-      Rung.passed (λ p h. omega (arith, h .0 .more, ap (λ (x : List Gate). length (bytes x)) (h .0 .answer)))
-      (record { v = v; answer = refl; is = ap₂ lent e f })
+  written-whole = Lent.written-whole bytes counts v old refused r
 
 -- an answer v that is the only one is v alone
 module _ {Answer : List Gate → List Gate → Type 0} (one : (u : List Gate) → Only (Answer u)) (w old : List ℕ) (v : List Gate)

@@ -4,13 +4,13 @@ use mathlib.Core.List.{List, [], _∷_, _++_}
 use Prim.Native.Nat.{ℕ, zero, suc, _+_, _^_, _≤_, _<_}
 use native.Mathlib.Omega.{arith}
 use lib.Dec.{lit<, lit≤}
-use lib.ListN.{length, drop, length-append}
-use lib.Seq.{sets-eq}
+use lib.ListN.{length, length-append}
 use Rattle.exact.specs.Meaning.Limits.{enough}
 use Rattle.exact.specs.Meaning.Lent.{over}
 use Rattle.exact.specs.Meaning.Record.{digits, line, answerLines, answerText}
 use Rattle.record.specs.Meaning.{WriteOutcome}
-use Rattle.record.specs.Write.{Written, written-both, written-length, digits-few}
+use Rattle.lent.specs.Written.{Written, written-both, written-length, written-over}
+use Rattle.record.specs.Write.{digits-few}
 
 -- ---- the four lines
 abbrev one : ℕ → List ℕ
@@ -78,13 +78,6 @@ lines-few refusal word t h k l =
       length-append (two word) (three t ++ four word),
       length-append (three t) (four word),
     )
-
--- a text written at the start, which has room
-written-over : (s : List ℕ) {old new : List ℕ} {size : ℕ} → Written old 0 s new size → length s ≤ length old
-    → (size ≡ length s) × (new ≡ over s old)
-written-over s {old} p h =
-    let none : 0 + length s ≡ length s = omega arith in
-    (p .behind ∙ none, p .is ∙ sets-eq s old 0 (omega arith) ∙ ap (λ n. s ++ drop n old) none)
 
 module _ (refusal : ℕ) (word : List ℕ) (t : ℕ) (old new : List ℕ) (size : ℕ) (fits : refusal < 256) (room : 512 ≤ length old) where
   outcome : (s : List ℕ) → s ≡ answerText refusal word t → length s ≤ 512 → Written old 0 s new size

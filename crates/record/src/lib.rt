@@ -12,7 +12,7 @@ ghost use lib.ListN.{length};
 ghost use Rattle.exact.specs.Meaning.Limits.{enough, Record as Malformed};
 ghost use Rattle.exact.specs.Meaning.Record.{answerLines};
 ghost use Rattle.record.specs.Meaning.{refusedRecord, ReadOutcome, WriteOutcome};
-ghost use Rattle.record.specs.Write.{Written};
+ghost use Rattle.lent.specs.Written.{Written};
 
 // The bytes of the longest right record: whoever has read more can stop, and the answer is 8.
 pub const LONGEST_RECORD: usize = 201;

@@ -4,19 +4,7 @@ ghost use mathlib.Core.List.{[], _∷_, _++_};
 ghost use Prim.Native.Nat.{_+_, _≤_, _<_};
 ghost use lib.ListN.{length};
 ghost use Rattle.exact.specs.Meaning.Record.{digits};
-ghost use Rattle.record.specs.Write.{Written};
-
-pub fn put(out: &mut [u8], at: usize, src: &[u8]) -> usize
-    requires { ⌜ at + length (now src) ≤ length (now out) ⌝ }
-    ensures { λ r. ⌜ Written (now (out .entry)) at (now (src .entry)) (now (out .exit)) r ⌝ }
-{
-    let mut i = 0;
-    while i < src.len() {
-        out[at + i] = src[i];
-        i += 1;
-    }
-    at + i
-}
+ghost use Rattle.lent.specs.Written.{Written};
 
 fn digit_of(d: u64) -> u8
     requires { ⌜ d < 10 ⌝ }
@@ -44,9 +32,9 @@ pub fn number_line(out: &mut [u8], at: usize, name: &[u8], v: u64) -> usize
     requires { ⌜ at + length (now name ++ (digits v ++ (10 ∷ []))) ≤ length (now out) ⌝ }
     ensures { λ r. ⌜ Written (now (out .entry)) at (now (name .entry) ++ (digits v ++ (10 ∷ []))) (now (out .exit)) r ⌝ }
 {
-    let value = put(out, at, name);
+    let value = lent::put(out, at, name);
     let end = number(out, value, v);
-    put(out, end, b"\n")
+    lent::put(out, end, b"\n")
 }
 
 // A line: its name with `=`, bytes, LF.
@@ -54,7 +42,7 @@ pub fn bytes_line(out: &mut [u8], at: usize, name: &[u8], value: &[u8]) -> usize
     requires { ⌜ at + length (now name ++ (now value ++ (10 ∷ []))) ≤ length (now out) ⌝ }
     ensures { λ r. ⌜ Written (now (out .entry)) at (now (name .entry) ++ (now (value .entry) ++ (10 ∷ []))) (now (out .exit)) r ⌝ }
 {
-    let start = put(out, at, name);
-    let end = put(out, start, value);
-    put(out, end, b"\n")
+    let start = lent::put(out, at, name);
+    let end = lent::put(out, start, value);
+    lent::put(out, end, b"\n")
 }

@@ -1,4 +1,4 @@
--- Document 01's limits, and its refusals by number.
+-- Document 01's limits, and the refusals of documents 01 and 02 by number.
 use Prim.Native.Nat.{ℕ, _^_}
 
 -- a word's letters, and as many syllables in a reading
@@ -44,3 +44,9 @@ Room = 7
 
 abbrev pub Record : ℕ
 Record = 8
+
+abbrev pub Statement : ℕ
+Statement = 9
+
+abbrev pub Phase : ℕ
+Phase = 10

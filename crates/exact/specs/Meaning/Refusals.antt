@@ -1,4 +1,4 @@
--- Document 01's refusals as values: each a number with its condition, over bytes and whole numbers.
+-- The refusals of documents 01 and 02 as values: each a number with its condition, over bytes and whole numbers.
 use mathlib.Core.Bool.{Bool}
 use mathlib.Core.List.{List}
 use Prim.Native.Nat.{ℕ, _<_}
@@ -6,18 +6,29 @@ use lib.IntN.{ℤ, pos, natAbs}
 use lib.ListN.{length}
 use lib.Signed.{_≤ℤ_}
 use Rattle.exact.specs.Meaning.Number.{Ω, Sized}
-use Rattle.exact.specs.Meaning.Word.{Letter, FirstOutside, Spelled}
+use Rattle.exact.specs.Meaning.Word.{Letter, W, byte, FirstOutside, First, Spelled}
 use Rattle.exact.specs.Meaning.Triple.{Triple, Unitary}
 use Rattle.exact.specs.Meaning.Endings.{DeepAt}
 use Rattle.exact.specs.Meaning.Limits as Limits
 use Rattle.exact.specs.Meaning.Limits.{longest, deepest, largest}
 use Rattle.exact.specs.Meaning.Record.{Numbers, RightRecord}
+use Rattle.exact.specs.Meaning.Text.{Stops}
 use Rattle.exact.specs.Meaning.Outcome.{Refusal, Refusals, none, _then_, plain}
 
 -- ---- words
 -- 1: over 4,096 letters
 abbrev pub long : List ℕ → Refusal
 long w = plain Limits.Long (longest < length w)
+
+-- 1, by the letters of an answer
+module _ (Answer : List Letter → Type 0) where
+  pub record TooLong : Type 0 where
+    pub v : List Letter
+    pub answer : Answer v
+    pub more : longest < length v
+
+  abbrev pub longAnswer : Refusal
+  longAnswer = plain Limits.Long TooLong
 
 -- 2: a byte outside the alphabet; the place is the first such
 abbrev pub letter : (Letter → Bool) → List ℕ → Refusal
@@ -26,6 +37,10 @@ letter alphabet w = record { number = Limits.Letter; At = FirstOutside alphabet 
 -- 6: an ending with reduced exponent over 60; the place is the rightmost start of such an ending
 abbrev pub deep : List ℕ → Refusal
 deep w = record { number = Limits.Deep; At = Spelled DeepAt w }
+
+-- 10: a W; the place is the leftmost
+abbrev pub phase : List ℕ → Refusal
+phase w = record { number = Limits.Phase; At = First (byte W) w }
 
 -- ---- triples
 -- the numbers as they are handed in; k below 0 is refused first
@@ -71,3 +86,8 @@ module _ {A : Type 0} (text : A → List ℕ) (Answer : A → Type 0) (old : Lis
 -- 8: no numbers have these bytes as their record
 abbrev pub malformed : List ℕ → Refusal
 malformed s = plain Limits.Record ((x : Numbers) → RightRecord s x → ⊥)
+
+-- ---- circuits
+-- 9: not a right text; the place is the first byte that can't continue one, or the length
+abbrev pub statement : (List ℕ → Type 0) → List ℕ → Refusal
+statement Right s = record { number = Limits.Statement; At = Stops Right s }

@@ -99,6 +99,12 @@ pub record FirstOutside (alphabet : Letter → Bool) (bs : List ℕ) (place : �
   pub outside : In alphabet (getD bs place 0) → ⊥
   pub before : (i : ℕ) → i < place → In alphabet (getD bs i 0)
 
+-- the first place that has the byte b
+pub record First (b : ℕ) (bs : List ℕ) (place : ℕ) : Type 0 where
+  pub there : place < length bs
+  pub is : getD bs place 0 ≡ b
+  pub before : (i : ℕ) → i < place → getD bs i 0 ≡ b → ⊥
+
 -- what holds of the letters that the bytes spell
 pub record Spelled {A : Type 0} (Of : List Letter → A → Type 0) (bs : List ℕ) (a : A) : Type 0 where
   pub letters : List Letter

@@ -1,12 +1,13 @@
--- Answers in lent memory: one that is the only one is written in one way; the same text may be handed on with other counts; and what is handed
--- back as written is there. Assumes nothing.
-use mathlib.Core.Path.{_≡_, sym, _∙_, ap}
+-- Answers in lent memory: one that is the only one is written in one way, or has no room; the same text may be handed on with other counts; and
+-- what is handed back as written is there. Assumes nothing.
+use mathlib.Core.Path.{_≡_, refl, sym, _∙_, ap, ap₂}
 use mathlib.Core.List.{List}
-use Prim.Native.Nat.{ℕ, _≤_}
+use Prim.Native.Nat.{ℕ, _<_, _≤_}
 use native.Mathlib.Omega.{arith}
 use lib.ListN.{length, drop, length-append}
 use Rattle.exact.specs.Meaning.Outcome.{Refusals, none, _then_, Rung, Outcome}
 use Rattle.exact.specs.Meaning.Lent.{Lent, lent, over, untouched, Writes}
+use Rattle.exact.specs.Meaning.Limits.{Room}
 use Rattle.exact.specs.Meaning.Refusals.{room}
 use Rattle.exact.specs.Outcomes.Ladder.{Only, always}
 
@@ -32,6 +33,17 @@ module _ {A H : Type 0} (text : A → List ℕ) (counts : A → H) (Answer : A �
         always (untouched refused old) (Writes text counts Answer old) (λ (r : Lent H). size (r .handed) ≤ length (r .buffer))
         (λ n p. omega (arith, nothing n p)) fs
         (λ h r x. rw (x .is) (omega (arith, all (x .v), length-append (text (x .v)) (drop (length (text (x .v))) old))))
+
+-- an answer that is v alone: there is no room for it, or it is written
+module _ {A H : Type 0} (text : A → List ℕ) (counts : A → H) (v : A) (old : List ℕ) (refused : ℕ → ℕ → H) (r : H) where
+  pub no-room : length old < length (text v) → r ≡ refused Room 0 → Written text counts (λ x. x ≡ v) old refused (lent r old)
+  no-room l e = Rung.given 0 (record { v = v; answer = refl; more = l }, refl) (ap (λ (x : H). lent x old) e)
+
+  pub written-whole : (new : List ℕ) → length (text v) ≤ length old → r ≡ counts v → new ≡ over (text v) old
+      → Written text counts (λ x. x ≡ v) old refused (lent r new)
+  written-whole new l e f =
+      Rung.passed (λ p h. omega (arith, h .0 .more, ap (λ (x : A). length (text x)) (h .0 .answer)))
+      (record { v = v; answer = refl; is = ap₂ lent e f })
 
 -- the same answers, handed on by f
 module _ {A H K : Type 0} (text : A → List ℕ) (counts : A → H) (counts′ : A → K) (Answer Answer′ : A → Type 0) (old : List ℕ)

@@ -1,10 +1,13 @@
 -- Each refusal has at most one place, and a matrix one normal word. Assumes nothing.
-use mathlib.Core.Path.{_≡_, sym, _∙_, subst}
+use mathlib.Core.Path.{_≡_, sym, _∙_, ap, subst}
 use mathlib.Core.Bool.{Bool}
-use mathlib.Core.List.{List}
-use Prim.Native.Nat.{ℕ, _<_}
+use mathlib.Core.List.{List, _++_, append-assoc}
+use Prim.Native.Nat.{ℕ, suc, _<_, _≤_}
 use native.Mathlib.Omega.{arith}
-use Rattle.exact.specs.Meaning.Word.{Letter, FirstOutside, Spelled}
+use lib.ListN.{take, drop, take-append-drop}
+use lib.Seq.{take-take}
+use Rattle.exact.specs.Meaning.Word.{Letter, FirstOutside, First, Spelled}
+use Rattle.exact.specs.Meaning.Text.{Begins, Stops}
 use Rattle.exact.specs.Meaning.Endings.{Shallow, Deep, DeepAt}
 use Rattle.exact.specs.Meaning.Matrix.{Matrix}
 use Rattle.exact.specs.Meaning.Normal.{NormalOf}
@@ -23,6 +26,29 @@ one-letter {alphabet} {w} p q f g = omega (arith, below f g, below g f)
   where
     below : {i j : ℕ} → FirstOutside alphabet w i → FirstOutside alphabet w j → i < j → ⊥
     below {i} {j} f g l = f .outside (g .before i l)
+
+pub one-first : {b : ℕ} {w : List ℕ} (p q : ℕ) → First b w p → First b w q → p ≡ q
+one-first {b} {w} p q f g = omega (arith, below f g, below g f)
+  where
+    below : {i j : ℕ} → First b w i → First b w j → i < j → ⊥
+    below {i} {j} f g l = g .before i l (f .is)
+
+-- ---- the first byte that can't continue a right text: what begins with fewer bytes of it begins one too
+module _ {Right : List ℕ → Type 0} (s : List ℕ) where
+  begins-fewer : (m n : ℕ) → m ≤ n → Begins Right (take n s) → Begins Right (take m s)
+  begins-fewer m n l b = record { rest = drop m (take n s) ++ b .rest; right = subst Right joined (b .right) }
+    where
+      joined : take n s ++ b .rest ≡ take m s ++ (drop m (take n s) ++ b .rest)
+      joined =
+          ap (λ x. x ++ b .rest) (sym (take-append-drop m (take n s)))
+          ∙ append-assoc (take m (take n s)) (drop m (take n s)) (b .rest)
+          ∙ ap (λ x. x ++ (drop m (take n s) ++ b .rest)) (take-take m n s l)
+
+pub one-stop : {Right : List ℕ → Type 0} {s : List ℕ} (p q : ℕ) → Stops Right s p → Stops Right s q → p ≡ q
+one-stop {Right} {s} p q f g = omega (arith, below f g, below g f)
+  where
+    below : {i j : ℕ} → Stops Right s i → Stops Right s j → i < j → ⊥
+    below {i} {j} f g l = f .ended (omega (arith, g .there)) (begins-fewer s (suc i) j (omega arith) (g .begun))
 
 pub not-both : {u : List Letter} → Shallow u → Deep u → ⊥
 not-both s d = omega (arith, s .few, d .many, least-unique (s .least) (d .least))

@@ -2,7 +2,8 @@
 -- Assumes nothing.
 use native.Mathlib.Omega.{arith}
 use lib.ListN.{length-set}
-use Rattle.record.specs.Write.{number-one, number-more, length-one, length-more, number-room, number-end, written-length}
+use Rattle.record.specs.Write.{number-one, number-more, length-one, length-more, number-room, number-end}
+use Rattle.lent.specs.Written.{written-length}
 use Prim.Native.Nat.{ℕ, _<_}
 use borrow.Fn.Kinds.{In}
 use borrow.Fn.PlainCycle.{Measures, is, falls, and}

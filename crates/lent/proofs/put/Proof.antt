@@ -1,10 +1,10 @@
--- `text::put` meets its contract. The loop's invariant: the first `i` bytes are in place. Assumes nothing.
+-- `lent::put` meets its contract. The loop's invariant: the first `i` bytes are in place. Assumes nothing.
 use Prim.Native.Nat.{_-_}
 use native.Mathlib.Omega.{arith}
 use lib.ListN.{length}
-use Rattle.record.specs.Write.{Putting, putting-none, putting-more, putting-all, written-length}
-use Rattle.record.proofs.text.put.Statement.{statement}
-use Rattle.record.proofs.text.put.Tie as tie
+use Rattle.lent.specs.Written.{Putting, putting-none, putting-more, putting-all, written-length}
+use Rattle.lent.proofs.put.Statement.{statement}
+use Rattle.lent.proofs.put.Tie as tie
 
 abbrev Inv-loop : tie.InvT-loop
 Inv-loop out₀ at src i₀ out i = Putting out₀ at src out i

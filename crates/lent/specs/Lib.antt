@@ -1,0 +1,2 @@
+-- What is put into lent bytes, and the proofs of it.
+pub mod Written
