@@ -1,5 +1,5 @@
 //! The writer and the reader of OpenQASM as plain loops in Rust, with the library's refusals, places and lent memory:
-//! what the library is timed against. Of the plain ways to write them these were the quickest; nothing is judged by them.
+//! what the library is timed against. Of the plain ways that were tried these are the quickest; nothing is judged by them.
 
 const LONGEST: usize = 4096;
 
@@ -16,7 +16,17 @@ impl Edition {
             Edition::Three => b"OPENQASM 3.0;\ninclude \"stdgates.inc\";\nqubit[1] q;\n",
         }
     }
+
+    fn lines(self) -> &'static [&'static [u8]] {
+        match self {
+            Edition::Two => &LINES[..6],
+            Edition::Three => &LINES,
+        }
+    }
 }
+
+const LINES: [&[u8]; 7] =
+    [b"h q[0];\n", b"s q[0];\n", b"t q[0];\n", b"x q[0];\n", b"sdg q[0];\n", b"tdg q[0];\n", b"gphase(pi/4);\n"];
 
 #[derive(Clone, Copy, PartialEq, Debug)]
 pub struct Answer {
@@ -55,12 +65,9 @@ pub fn write(edition: Edition, word: &[u8], buf: &mut [u8]) -> Answer {
     let mut at = put(buf, 0, head);
     for g in word.iter().rev() {
         at = match g {
-            b'H' => put(buf, at, b"h q[0];\n"),
-            b'S' => put(buf, at, b"s q[0];\n"),
-            b'T' => put(buf, at, b"t q[0];\n"),
-            b'X' => put(buf, at, b"x q[0];\n"),
+            b'I' => at,
             b'W' => put(buf, at, b"gphase(pi/4);\n"),
-            _ => at,
+            g => put(buf, at, &[g.to_ascii_lowercase(), b' ', b'q', b'[', b'0', b']', b';', b'\n']),
         };
     }
     Answer { refusal: 0, place: 0, bytes }
@@ -73,46 +80,36 @@ fn put(buf: &mut [u8], at: usize, line: &[u8]) -> usize {
     end
 }
 
-/// Lines and their letters; the phase, last, is in 3.0 only.
-const LINES: [(&[u8], &[u8]); 7] = [
-    (b"h q[0];\n", b"H"),
-    (b"s q[0];\n", b"S"),
-    (b"t q[0];\n", b"T"),
-    (b"x q[0];\n", b"X"),
-    (b"sdg q[0];\n", b"SSS"),
-    (b"tdg q[0];\n", b"TSSS"),
-    (b"gphase(pi/4);\n", b"W"),
-];
-
-/// The length of the statement that stands first, and its letters.
-fn statement(edition: Edition, text: &[u8]) -> Option<(usize, &'static [u8])> {
-    let lines = if edition == Edition::Two { &LINES[..6] } else { &LINES };
-    lines.iter().find(|(line, _)| text.starts_with(line)).map(|(line, letters)| (line.len(), *letters))
+/// The bytes of the statement that stands first, and how many letters it is.
+fn statement(edition: Edition, text: &[u8]) -> Option<(usize, usize)> {
+    match text {
+        [b'h' | b's' | b't' | b'x', b' ', b'q', b'[', b'0', b']', b';', b'\n', ..] => Some((8, 1)),
+        [b's', b'd', b'g', b' ', b'q', b'[', b'0', b']', b';', b'\n', ..] => Some((10, 3)),
+        [b't', b'd', b'g', b' ', b'q', b'[', b'0', b']', b';', b'\n', ..] => Some((10, 4)),
+        _ if edition == Edition::Three && text.starts_with(b"gphase(pi/4);\n") => Some((14, 1)),
+        _ => None,
+    }
 }
 
-fn common(a: &[u8], b: &[u8]) -> usize {
-    a.iter().zip(b).take_while(|(x, y)| x == y).count()
-}
-
-/// How far some statement goes along with a text that begins with none.
-fn furthest(edition: Edition, text: &[u8]) -> usize {
-    let lines = if edition == Edition::Two { &LINES[..6] } else { &LINES };
-    lines.iter().map(|(line, _)| common(text, line)).max().unwrap_or(0)
+/// How far the text goes along with one of these.
+fn along(text: &[u8], lines: &[&[u8]]) -> usize {
+    let common = |line: &&[u8]| text.iter().zip(*line).take_while(|(a, b)| a == b).count();
+    lines.iter().map(common).max().unwrap_or(0)
 }
 
 pub fn read(text: &[u8], buf: &mut [u8]) -> Answer {
     let editions = [Edition::Two, Edition::Three];
     let Some(edition) = editions.into_iter().find(|e| text.starts_with(e.head())) else {
-        return refused(9, editions.map(|e| common(text, e.head())).into_iter().max().unwrap_or(0));
+        return refused(9, along(text, &editions.map(Edition::head)));
     };
     let head = edition.head().len();
     let (mut at, mut bytes) = (head, 0);
     while at < text.len() {
         let Some((size, letters)) = statement(edition, &text[at..]) else {
-            return refused(9, at + furthest(edition, &text[at..]));
+            return refused(9, at + along(&text[at..], edition.lines()));
         };
         at += size;
-        bytes += letters.len();
+        bytes += letters;
     }
     if bytes > LONGEST {
         return refused(1, 0);
@@ -120,11 +117,35 @@ pub fn read(text: &[u8], buf: &mut [u8]) -> Answer {
     if bytes > buf.len() {
         return refused(7, 0);
     }
-    let (mut at, mut end) = (head, bytes);
-    while let Some((size, letters)) = statement(edition, &text[at..]) {
-        buf[end - letters.len()..end].copy_from_slice(letters);
-        end -= letters.len();
-        at += size;
-    }
+    put_letters(&text[head..], &mut buf[..bytes]);
     Answer { refusal: 0, place: 0, bytes }
+}
+
+/// The first statement's letters come last; the second byte of a right statement tells what it is.
+fn put_letters(lines: &[u8], buf: &mut [u8]) {
+    let (mut at, mut end) = (0, buf.len());
+    while at < lines.len() {
+        match (lines[at], lines[at + 1]) {
+            (g, b' ') => {
+                end -= 1;
+                buf[end] = g.to_ascii_uppercase();
+                at += 8;
+            }
+            (b's', _) => {
+                end -= 3;
+                put(buf, end, b"SSS");
+                at += 10;
+            }
+            (b't', _) => {
+                end -= 4;
+                put(buf, end, b"TSSS");
+                at += 10;
+            }
+            _ => {
+                end -= 1;
+                buf[end] = b'W';
+                at += 14;
+            }
+        }
+    }
 }
