@@ -14,7 +14,7 @@
  * pointer leads to as many elements as its declaration or its length says, and no memory that is written (out, place, buf)
  * overlaps another argument's.
  *
- * The result is 0 or the number of a refusal; of several that hold, the first in the list. No call keeps memory, a pointer
+ * The result is 0 or the number of a refusal; of several that hold, the first in the function's own list. No call keeps memory, a pointer
  * or a state; calls may run side by side. A later number comes through a new function: no out array grows. */
 #ifndef DUNROSSEL_H
 #define DUNROSSEL_H
@@ -31,11 +31,14 @@ enum {
     DUNROSSEL_UNITARY = 5,     /* the matrix isn't unitary */
     DUNROSSEL_DEEP = 6,        /* an ending of the word has reduced exponent over 60; place: the rightmost start of one */
     DUNROSSEL_ROOM = 7,        /* the answer has more bytes than `room` */
-    DUNROSSEL_RECORD = 8       /* the bench record is malformed */
+    DUNROSSEL_RECORD = 8,      /* the bench record is malformed */
+    DUNROSSEL_STATEMENT = 9,   /* the text isn't a circuit; place: its first byte that can't continue one, or its length */
+    DUNROSSEL_PHASE = 10       /* a W, and OpenQASM 2.0 has no global phase; place: the leftmost */
 };
 
-/* The longest word that is taken; a room that dunrossel_synthesise never finds too small. */
-enum { DUNROSSEL_LETTERS = 4096, DUNROSSEL_ENOUGH = 376 };
+/* The longest word that is taken; a room that dunrossel_synthesise never finds too small; a room that no circuit finds too
+ * small: 50 bytes of header, and at most 14 for each letter. */
+enum { DUNROSSEL_LETTERS = 4096, DUNROSSEL_ENOUGH = 376, DUNROSSEL_CIRCUIT = 57394 };
 
 #ifdef __cplusplus
 extern "C" {
@@ -81,6 +84,28 @@ uint8_t dunrossel_view(int64_t k, uint8_t n, const int64_t zw[8], double out[8])
 /* What the bench program writes for a record, into out; the result is its number of bytes, those beyond are as before.
  * A refusal (3, 4, 5, 8) stands in the text: refusal=, an empty word, t=0, bytes=0. */
 size_t dunrossel_bench(const uint8_t *record, size_t len, uint8_t out[512]);
+
+/* Circuits are OpenQASM on one qubit, to the byte, an LF after each line and nothing else:
+ *
+ *     OPENQASM 2.0;              OPENQASM 3.0;
+ *     include "qelib1.inc";      include "stdgates.inc";
+ *     qreg q[1];                 qubit[1] q;
+ *
+ * then a line for each statement: h q[0]; s q[0]; t q[0]; x q[0]; sdg q[0]; tdg q[0]; and in 3.0 gphase(pi/4); for W.
+ * A circuit's first statement acts first, so it is the word's rightmost letter.
+ *
+ * Writes the circuit of the word's letters I H S X W T into buf, by h, s, t, x and gphase; I is left out. Room for 47 bytes
+ * and 8 for each letter always does in 2.0; DUNROSSEL_CIRCUIT does in both. out: place of a refusal 2 or 10 (else 0), bytes
+ * written.
+ * Refuses 1, 2, 10, 7 in 2.0, and 1, 2, 7 in 3.0. */
+uint8_t dunrossel_qasm2_write(const uint8_t *word, size_t len, uint8_t *buf, size_t room, uint64_t out[2]);
+uint8_t dunrossel_qasm3_write(const uint8_t *word, size_t len, uint8_t *buf, size_t room, uint64_t out[2]);
+
+/* Writes the letters of a circuit of either edition, of any length, into buf: sdg is read as SSS, tdg as TSSS. They have the
+ * circuit's own matrix, phase included, and of what was written they are the letters but for I. DUNROSSEL_LETTERS bytes
+ * always do. out: place of a refusal 9 (else 0), bytes written.
+ * Refuses 9, 1 (by the letters read), 7. */
+uint8_t dunrossel_qasm_read(const uint8_t *text, size_t len, uint8_t *buf, size_t room, uint64_t out[2]);
 
 #ifdef __cplusplus
 }

@@ -110,35 +110,96 @@ module _ (s : List ℕ) (at left room : ℕ) (h : Stands s at left room) where
     stands-three = omega (arith, h .enough, by-kind (λ a. 3 ≤ length (readAs a)) three)
       where
         three : Each (Told (λ a. 3 ≤ length (readAs a)))
-        three =
-            ((λ e f. omega arith), ((λ e f. omega arith), ((λ e f. omega arith), ((λ e f. omega arith), ((λ e f. lit≤ tt), ((λ e f. lit≤ tt),
-            (λ e f. omega arith)))))))
+        three = (
+          (λ e f. omega arith),
+          (
+            (λ e f. omega arith),
+            (
+              (λ e f. omega arith),
+              (
+                (λ e f. omega arith),
+                (
+                  (λ e f. lit≤ tt),
+                  (
+                    (λ e f. lit≤ tt),
+                    (λ e f. omega arith),
+                  ),
+                ),
+              ),
+            ),
+          ),
+        )
 
     pub stands-four : (getD s at 0 ≡ 115 → ⊥) → 4 ≤ left
     stands-four n = omega (arith, h .enough, by-kind (λ a. 4 ≤ length (readAs a)) four)
       where
         four : Each (Told (λ a. 4 ≤ length (readAs a)))
-        four =
-            ((λ e f. omega arith), ((λ e f. omega arith), ((λ e f. omega arith), ((λ e f. omega arith), ((λ e f. absurd (n e)), ((λ e f. lit≤ tt),
-            (λ e f. omega arith)))))))
+        four = (
+          (λ e f. omega arith),
+          (
+            (λ e f. omega arith),
+            (
+              (λ e f. omega arith),
+              (
+                (λ e f. omega arith),
+                (
+                  (λ e f. absurd (n e)),
+                  (
+                    (λ e f. lit≤ tt),
+                    (λ e f. omega arith),
+                  ),
+                ),
+              ),
+            ),
+          ),
+        )
 
     pub stands-dagger : length s < 2 ^ 64 → Fits w64 (at + 10)
     stands-dagger m =
         record { fits = omega (arith, within s at (h .statement) (h .rest) (h .there), by-kind (λ a. 10 ≤ length (lineOf a)) ten) }
       where
         ten : Each (Told (λ a. 10 ≤ length (lineOf a)))
-        ten =
-            ((λ e f. omega arith), ((λ e f. omega arith), ((λ e f. omega arith), ((λ e f. omega arith), ((λ e f. lit≤ tt), ((λ e f. lit≤ tt),
-            (λ e f. omega arith)))))))
+        ten = (
+          (λ e f. omega arith),
+          (
+            (λ e f. omega arith),
+            (
+              (λ e f. omega arith),
+              (
+                (λ e f. omega arith),
+                (
+                  (λ e f. lit≤ tt),
+                  (
+                    (λ e f. lit≤ tt),
+                    (λ e f. omega arith),
+                  ),
+                ),
+              ),
+            ),
+          ),
+        )
 
   pub stands-phase : (getD s (at + 1) 0 ≡ 32 → ⊥) → (getD s (at + 1) 0 ≡ 100 → ⊥) → length s < 2 ^ 64 → Fits w64 (at + 14)
   stands-phase m n k =
       record { fits = omega (arith, within s at (h .statement) (h .rest) (h .there), by-kind (λ a. 14 ≤ length (lineOf a)) fourteen) }
     where
       fourteen : Each (Told (λ a. 14 ≤ length (lineOf a)))
-      fourteen =
-          ((λ e f. absurd (m f)), ((λ e f. absurd (m f)), ((λ e f. absurd (m f)), ((λ e f. absurd (m f)), ((λ e f. absurd (n f)),
-          ((λ e f. absurd (n f)), (λ e f. lit≤ tt)))))))
+      fourteen = (
+        (λ e f. absurd (m f)),
+        (
+          (λ e f. absurd (m f)),
+          (
+            (λ e f. absurd (m f)),
+            (
+              (λ e f. absurd (m f)),
+              (
+                (λ e f. absurd (n f)),
+                ((λ e f. absurd (n f)), (λ e f. lit≤ tt)),
+              ),
+            ),
+          ),
+        ),
+      )
 
 -- behind SSS there is a letter more
 module _ (s : List ℕ) (at left : ℕ) (old new : List ℕ) (r : ℕ) (h : Stands s at left (length old))
@@ -165,34 +226,77 @@ module _ (s : List ℕ) (at left : ℕ) (old new : List ℕ) (l : ℕ) where
 
     pub puts-gate : PutsStatement s at left old (record { at = at + 8; left = l }) new
     puts-gate =
-        puts-by 8
-        ((λ e f. record { next = refl; put = upper e refl }),
-        ((λ e f. record { next = refl; put = upper e refl }),
-        ((λ e f. record { next = refl; put = upper e refl }),
-        ((λ e f. record { next = refl; put = upper e refl }),
-        ((λ e f. absurd (omega arith)), ((λ e f. absurd (omega arith)), (λ e f. absurd (omega arith))))))))
+        puts-by 8 (
+          (λ e f. record { next = refl; put = upper e refl }),
+          (
+            (λ e f. record { next = refl; put = upper e refl }),
+            (
+              (λ e f. record { next = refl; put = upper e refl }),
+              (
+                (λ e f. record { next = refl; put = upper e refl }),
+                ((λ e f. absurd (omega arith)), ((λ e f. absurd (omega arith)), (λ e f. absurd (omega arith)))),
+              ),
+            ),
+          ),
+        )
 
   pub puts-phase : (getD s (at + 1) 0 ≡ 32 → ⊥) → (getD s (at + 1) 0 ≡ 100 → ⊥) → Before old left 87 new l
       → PutsStatement s at left old (record { at = at + 14; left = l }) new
   puts-phase m n p =
-      puts-by 14
-      ((λ e f. absurd (m f)), ((λ e f. absurd (m f)), ((λ e f. absurd (m f)), ((λ e f. absurd (m f)), ((λ e f. absurd (n f)), ((λ e f. absurd (n f)),
-      (λ e f. record { next = refl; put = before-one p })))))))
+      puts-by 14 (
+        (λ e f. absurd (m f)),
+        (
+          (λ e f. absurd (m f)),
+          (
+            (λ e f. absurd (m f)),
+            (
+              (λ e f. absurd (m f)),
+              (
+                (λ e f. absurd (n f)),
+                (
+                  (λ e f. absurd (n f)),
+                  (λ e f. record { next = refl; put = before-one p }),
+                ),
+              ),
+            ),
+          ),
+        ),
+      )
 
   module _ (g : getD s (at + 1) 0 ≡ 100) where
     pub puts-sdg : getD s at 0 ≡ 115 → PutsBefore old left (83 ∷ 83 ∷ 83 ∷ []) new l
         → PutsStatement s at left old (record { at = at + 10; left = l }) new
     puts-sdg q p =
-        puts-by 10
-        ((λ e f. absurd (omega arith)), ((λ e f. absurd (omega arith)), ((λ e f. absurd (omega arith)), ((λ e f. absurd (omega arith)),
-        ((λ e f. record { next = refl; put = p }), ((λ e f. absurd (omega arith)), (λ e f. absurd (omega arith))))))))
+        puts-by 10 (
+          (λ e f. absurd (omega arith)),
+          (
+            (λ e f. absurd (omega arith)),
+            (
+              (λ e f. absurd (omega arith)),
+              (
+                (λ e f. absurd (omega arith)),
+                ((λ e f. record { next = refl; put = p }), ((λ e f. absurd (omega arith)), (λ e f. absurd (omega arith)))),
+              ),
+            ),
+          ),
+        )
 
     pub puts-tdg : (mid : List ℕ) (m : ℕ) → (getD s at 0 ≡ 115 → ⊥) → PutsBefore old left (83 ∷ 83 ∷ 83 ∷ []) mid m → Before mid m 84 new l
         → PutsStatement s at left old (record { at = at + 10; left = l }) new
     puts-tdg mid m n p q =
-        puts-by 10
-        ((λ e f. absurd (omega arith)), ((λ e f. absurd (omega arith)), ((λ e f. absurd (omega arith)), ((λ e f. absurd (omega arith)),
-        ((λ e f. absurd (n e)), ((λ e f. record { next = refl; put = before-more p q }), (λ e f. absurd (omega arith))))))))
+        puts-by 10 (
+          (λ e f. absurd (omega arith)),
+          (
+            (λ e f. absurd (omega arith)),
+            (
+              (λ e f. absurd (omega arith)),
+              (
+                (λ e f. absurd (omega arith)),
+                ((λ e f. absurd (n e)), ((λ e f. record { next = refl; put = before-more p q }), (λ e f. absurd (omega arith)))),
+              ),
+            ),
+          ),
+        )
 
 -- ---- the letters of the statements before a place are put
 pub record Putting (s : List ℕ) (n : ℕ) (old buf : List ℕ) (at left : ℕ) : Type 0 where

@@ -12,3 +12,4 @@ pub mod ReadingLaws
 pub mod LettersLaws
 pub mod ReaderWays
 pub mod Unique
+pub mod RoundTrip

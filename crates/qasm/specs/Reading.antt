@@ -1,7 +1,7 @@
 -- What the reader's functions promise one another: how far a text goes along, the statement at a place, the walk, and the letters put.
 -- Assumes nothing.
 use mathlib.Core.Path.{_≡_}
-use mathlib.Core.Bool.{Bool}
+use mathlib.Core.Bool.{Bool, true}
 use mathlib.Core.List.{List, [], _∷_, _++_}
 use Prim.Native.Nat.{ℕ, suc, _+_, _<_, _≤_}
 use lib.Dec.{T}
@@ -9,7 +9,7 @@ use lib.ListN.{length, take, drop, set, getD}
 use lib.Seq.{sets}
 use Rattle.exact.specs.Meaning.Word.{Letter, bytes}
 use Rattle.exact.specs.Meaning.Lent.{over}
-use Rattle.exact.specs.Meaning.Text.{Stops}
+use Rattle.exact.specs.Meaning.Text.{ascii, Stops}
 use Rattle.qasm.specs.declared.reader.Walked.{Walked}
 use Rattle.qasm.specs.declared.reader.Walked.the-variants as Walked
 use Rattle.qasm.specs.declared.reader.Line.{Line}
@@ -56,6 +56,20 @@ pub record Taken (phase : Bool) (s : List ℕ) (at next n : ℕ) : Type 0 where
 abbrev pub LineIs : Bool → List ℕ → ℕ → Line → Type 0
 LineIs phase s at (Line.Stopped p) = StopsAt phase s at p
 LineIs phase s at (Line.Is next n) = Taken phase s at next n
+
+-- a gate's name is one byte
+pub record GateNamed (b : ℕ) : Type 0 where
+  pub statement : Statement
+  pub named : lineOf statement ≡ b ∷ ascii " q[0];\n"
+  pub one : length (readAs statement) ≡ 1
+  pub may : (phase : Bool) → T (allowed phase statement)
+
+-- where a line is told at once, its tail and its name are there; nothing is said where it is not
+pub record TailIs (s : List ℕ) (at : ℕ) (r : Bool) : Type 0 where
+  pub there : r ≡ true → drop at s ≡ ascii " q[0];\n" ++ drop (at + 7) s
+
+pub record GateIs (b : ℕ) (r : Bool) : Type 0 where
+  pub gate : r ≡ true → GateNamed b
 
 -- ---- the walk
 -- an edition's header, which ends at a place

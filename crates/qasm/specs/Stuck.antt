@@ -84,8 +84,9 @@ module _ (Next : List ℕ → Type 0) (front r : List ℕ) (k : ℕ) (k-stuck : 
       ended-by l b =
           apart y
           (λ i m n. (
-          omega (arith, more),
-          List·getD-append (take (suc k) r) (b .rest) 0 i (omega (arith, long)) ∙ getD-take (suc k) r i 0 (omega arith)))
+            omega (arith, more),
+            List·getD-append (take (suc k) r) (b .rest) 0 i (omega (arith, long)) ∙ getD-take (suc k) r i 0 (omega arith),
+          ))
           (goes y (λ m. omega (arith, long, length-append (take (suc k) r) (b .rest)))
           (subst Right (append-assoc front (take (suc k) r) (b .rest)) (b .right)))
         where

@@ -1,10 +1,10 @@
 // The reader: one walk tells whether a text is right and counts its letters; a second puts them, from the right.
 ghost use mathlib.Core.Path.{_≡_};
 ghost use mathlib.Core.List.{[], _∷_};
-ghost use Prim.Native.Nat.{_≤_, _<_};
+ghost use Prim.Native.Nat.{_+_, _≤_, _<_, min};
 ghost use lib.Dec.{eqb};
 ghost use lib.ListN.{length, getD, drop};
-ghost use Rattle.qasm.specs.Reading.{Along, MatchIs, LineIs, Headed, WalkIs, OfCircuit, Before, PutsBefore};
+ghost use Rattle.qasm.specs.Reading.{Along, MatchIs, LineIs, TailIs, GateIs, Headed, WalkIs, OfCircuit, Before, PutsBefore};
 ghost use Rattle.qasm.specs.Reading.{Stands, PutsStatement, PutsLetters};
 
 pub enum Walked {
@@ -19,16 +19,20 @@ enum Line {
     Is { next: usize, letters: usize },
 }
 
+fn lesser(a: usize, b: usize) -> usize
+    ensures { λ r. ⌜ r ≡ min a b ⌝ }
+{
+    if a < b { a } else { b }
+}
+
 // How far the text goes along with a word from a place on.
 fn along(text: &[u8], at: usize, word: &[u8]) -> usize
     requires { ⌜ at ≤ length (now text) ⌝ }
     ensures { λ r. ⌜ Along (drop at (now (text .entry))) (now (word .entry)) r ⌝ }
 {
+    let end = lesser(text.len() - at, word.len());
     let mut k: usize = 0;
-    while k < word.len() {
-        if at + k >= text.len() {
-            return k;
-        }
+    while k < end {
         if text[at + k] != word[k] {
             return k;
         }
@@ -62,8 +66,8 @@ fn matched(text: &[u8], at: usize, line: &[u8], letters: usize) -> Line
     }
 }
 
-// The statement at a place: its first two bytes tell which it can only be.
-fn line_at(text: &[u8], at: usize, phase: bool) -> Line
+// The statement at a place, or where the text stops: its first two bytes tell which it can only be.
+fn other_at(text: &[u8], at: usize, phase: bool) -> Line
     requires { ⌜ at < length (now text) ⌝ }
     ensures { λ r. ⌜ LineIs phase (now (text .entry)) at r ⌝ }
 {
@@ -95,6 +99,63 @@ fn line_at(text: &[u8], at: usize, phase: bool) -> Line
     matched(text, at, b"gphase(pi/4);\n", 1)
 }
 
+// Whether ` q[0];` and LF stand at a place.
+fn tail_at(text: &[u8], at: usize) -> bool
+    requires { ⌜ at + 7 ≤ length (now text) ⌝ }
+    ensures { λ r. ⌜ TailIs (now (text .entry)) at r ⌝ }
+{
+    if text[at] != b' ' {
+        return false;
+    }
+    if text[at + 1] != b'q' {
+        return false;
+    }
+    if text[at + 2] != b'[' {
+        return false;
+    }
+    if text[at + 3] != b'0' {
+        return false;
+    }
+    if text[at + 4] != b']' {
+        return false;
+    }
+    if text[at + 5] != b';' {
+        return false;
+    }
+    text[at + 6] == b'\n'
+}
+
+// Whether a gate has the name.
+fn is_gate(b: u8) -> bool
+    ensures { λ r. ⌜ GateIs b r ⌝ }
+{
+    match b {
+        b'h' => true,
+        b's' => true,
+        b't' => true,
+        b'x' => true,
+        _ => false,
+    }
+}
+
+// The statement at a place; most are gates with a name of one letter, and are told at once.
+fn line_at(text: &[u8], at: usize, phase: bool) -> Line
+    requires { ⌜ at < length (now text) ⌝ }
+    ensures { λ r. ⌜ LineIs phase (now (text .entry)) at r ⌝ }
+{
+    if text.len() - at >= 8 {
+        if is_gate(text[at]) {
+            if tail_at(text, at + 1) {
+                return Line::Is {
+                    next: at + 8,
+                    letters: 1,
+                };
+            }
+        }
+    }
+    other_at(text, at, phase)
+}
+
 fn lines_from(text: &[u8], start: usize, phase: bool) -> Walked
     requires { ⌜ Headed (now text) start phase ⌝ }
     ensures { λ r. ⌜ WalkIs (now (text .entry)) r ⌝ }
@@ -120,13 +181,21 @@ pub fn walk(text: &[u8]) -> Walked
     ensures { λ r. ⌜ WalkIs (now (text .entry)) r ⌝ }
 {
     if stands(text, 9, b'3') {
-        let k = along(text, 0, b"OPENQASM 3.0;\ninclude \"stdgates.inc\";\nqubit[1] q;\n");
+        let k = along(
+            text,
+            0,
+            b"OPENQASM 3.0;\ninclude \"stdgates.inc\";\nqubit[1] q;\n",
+        );
         if k < 50 {
             return Walked::Stopped(k);
         }
         return lines_from(text, 50, true);
     }
-    let k = along(text, 0, b"OPENQASM 2.0;\ninclude \"qelib1.inc\";\nqreg q[1];\n");
+    let k = along(
+        text,
+        0,
+        b"OPENQASM 2.0;\ninclude \"qelib1.inc\";\nqreg q[1];\n",
+    );
     if k < 47 {
         return Walked::Stopped(k);
     }
