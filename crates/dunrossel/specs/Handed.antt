@@ -25,7 +25,8 @@ use Rattle.clifford.specs.declared.Clifford.{Clifford}
 use Rattle.clifford.specs.declared.Coset.{Coset}
 use Rattle.synthesis_of_clifford_t.specs.declared.Synthesis.{Synthesis}
 use Rattle.synthesis_of_clifford_t.specs.Outcome.{SynthesiseOutcome}
-use Rattle.qasm.specs.Meaning.{Edition, WriteOutcome, ReadOutcome}
+use Rattle.circuit.specs.Meaning.{Edition}
+use Rattle.qasm.specs.Outcome.{WriteOutcome, ReadOutcome}
 use Rattle.qasm.specs.declared.Written.{Written as Converted}
 use Rattle.view.specs.declared.Answer.{Answer}
 use Rattle.view.specs.Meaning.Outcome.{ViewOutcome}

@@ -8,7 +8,8 @@ use Rattle.unitary.specs.Unique.{reduce-unique, matrix-unique}
 use Rattle.normal_form.specs.Outcome.{outcome-unique}
 use Rattle.clifford.specs.Job6.{Product-unique, Inverse-unique, Split-unique}
 use Rattle.synthesis_of_clifford_t.specs.Outcome.{synthesise-unique}
-use Rattle.qasm.specs.Meaning.{Edition, WriteOutcome, ReadOutcome}
+use Rattle.circuit.specs.Meaning.{Edition}
+use Rattle.qasm.specs.Outcome.{WriteOutcome, ReadOutcome}
 use Rattle.qasm.specs.Unique.{write-unique, read-unique}
 use Rattle.view.specs.Unique.{view-unique}
 use Rattle.dunrossel.specs.Exports.{zOf, wOf, Reduces, Multiplies, Views, Writes, Synthesises, Converts, argument, Multiplied, Inverted, Parted}

@@ -10,24 +10,16 @@ use Rattle.exact.specs.Meaning.Outcome.{Rung}
 use Rattle.exact.specs.Meaning.Lent.{lent}
 use Rattle.exact.specs.Meaning.Text.{Stops}
 use Rattle.exact.specs.Cases.Letters.{bytes-length}
-use Rattle.exact.specs.Outcomes.Ladder.{Only}
 use Rattle.exact.specs.Outcomes.Lent as Lent
 use Rattle.qasm.specs.declared.Written.{Written}
-use Rattle.qasm.specs.declared.reader.Walked.{Walked}
-use Rattle.qasm.specs.declared.reader.Walked.the-variants as Walked
-use Rattle.qasm.specs.Meaning.{Right, letters, refused, accepted, Reads, ReadOutcome}
-use Rattle.qasm.specs.Lines.{right-once}
-use Rattle.qasm.specs.Reading.{OfCircuit, WalkIs, PutsLetters}
+use Rattle.circuit_reader.specs.declared.Walked.{Walked}
+use Rattle.circuit_reader.specs.declared.Walked.the-variants as Walked
+use Rattle.circuit.specs.Meaning.{Right, letters}
+use Rattle.qasm.specs.Outcome.{refused, accepted, ReadOutcome}
+use Rattle.circuit.specs.Meaning.{Reads}
+use Rattle.circuit.specs.Lines.{one-reading}
+use Rattle.circuit_reader.specs.Reading.{OfCircuit, WalkIs, PutsLetters}
 use Rattle.qasm.specs.WriterWays.{stays}
-
--- a text is read as one list of letters
-pub one-reading : (s : List ℕ) → Only (Reads s)
-one-reading s v w x y = x .is ∙ ap letters same ∙ sym (y .is)
-  where
-    same : x .right .circuit ≡ y .right .circuit
-    same =
-        right-once s (x .right .edition) (y .right .edition) (x .right .circuit) (y .right .circuit) (x .right .right) (y .right .right)
-        .same-circuit
 
 -- ---- not a right text
 pub no-text : (s old : List ℕ) (r : Written) (x : Walked) (p : ℕ) → WalkIs s x → x ≡ Walked.Stopped p → r ≡ refused Statement p

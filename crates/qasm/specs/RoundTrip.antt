@@ -19,11 +19,11 @@ use Rattle.exact.specs.Cases.Letters.{bytes-length, bytes-inj, none-outside, al
 use Rattle.exact.specs.Outcomes.Ladder.{Passed, answered}
 use Rattle.exact.specs.Outcomes.Lent.{handed-same, bytes-same}
 use Rattle.qasm.specs.declared.Written.{Written}
-use Rattle.qasm.specs.Meaning.{Edition, two, three, row, Statement, h′, s′, t′, x′, allowed, AllAllowed, text, Right, letters, statementOf, circuit, lessI, matrix}
-use Rattle.qasm.specs.Meaning.{refused, accepted, Circuits, unless, writeRefusals, WriteOutcome, Reads, readRefusals, ReadOutcome}
-use Rattle.qasm.specs.Lines.{allowed-append, each, computed}
-use Rattle.qasm.specs.Gates.{letters-circuit, circuit-matrix, word-matrix}
-use Rattle.qasm.specs.ReaderWays.{one-reading}
+use Rattle.circuit.specs.Meaning.{Edition, two, three, row, Statement, h′, s′, t′, x′, allowed, AllAllowed, text, Right, letters, statementOf, circuit, lessI, matrix}
+use Rattle.qasm.specs.Outcome.{refused, accepted, Circuits, unless, writeRefusals, WriteOutcome, readRefusals, ReadOutcome}
+use Rattle.circuit.specs.Meaning.{Reads}
+use Rattle.circuit.specs.Lines.{allowed-append, each, computed, one-reading}
+use Rattle.circuit.specs.Gates.{letters-circuit, circuit-matrix, word-matrix}
 
 -- ---- a word's circuit is allowed where the edition has a phase, or the word has no W
 module _ (l : Letter) (u : List Letter) (other : byte l ≡ byte W → ⊥) where
@@ -65,6 +65,24 @@ lessI-length (X ∷ u) = omega (arith, lessI-length u)
 lessI-length (W ∷ u) = omega (arith, lessI-length u)
 lessI-length (T′ ∷ u) = omega (arith, lessI-length u)
 
+-- ---- a right text with room for its letters, if they are not too many, is read as them, and as nothing else
+module _ (s : List ℕ) (v : List Letter) (x : Reads s v) (old : List ℕ) (short : length v ≤ longest) (l : length v ≤ length old) where
+  same : (w : List Letter) → Reads s w → length w ≡ length v
+  same w y = ap length (one-reading s w v y x)
+
+  passed : Passed (readRefusals s old)
+  passed =
+      ((λ p k. k .wrong (x .right)),
+      ((λ p k. omega (arith, k .0 .more, same (k .0 .v) (k .0 .answer))),
+      ((λ p k. omega (arith, k .0 .more, same (k .0 .v) (k .0 .answer), bytes-length (k .0 .v))), tt)))
+
+  pub only-read : (r : Written) (new : List ℕ) → ReadOutcome s old r new → lent r new ≡ lent (accepted (bytes v)) (over (bytes v) old)
+  only-read r new q = b .is ∙ ap (λ w. lent (accepted (bytes w)) (over (bytes w) old)) (one-reading s (b .v) v (b .answer) x)
+    where
+      b : Writes bytes (λ w. accepted (bytes w)) (Reads s) old (lent r new)
+      b =
+          answered (untouched refused old) (Writes bytes (λ w. accepted (bytes w)) (Reads s) old) (readRefusals s old) passed (lent r new) q
+
 -- ---- what was written, where none of the refusals holds
 module _ (e : Edition) (u : List Letter) (old : List ℕ) (h : Passed (writeRefusals e (bytes u) old)) where
   abbrev circuitText : List ℕ
@@ -96,37 +114,15 @@ module _ (e : Edition) (u : List Letter) (old : List ℕ) (h : Passed (writeRefu
       ap₂ take (ap (λ (x : Written). x .bytes) (handed-same (written r new o))) (bytes-same (written r new o))
       ∙ take-append-seam circuitText (drop (length circuitText) old)
 
-  module _ (old′ : List ℕ) (l : length (lessI u) ≤ length old′) where
-    passed : Passed (readRefusals circuitText old′)
-    passed = (
-      (λ p k. k .wrong right-written),
-      (
-        (λ p k. omega (arith, k .0 .more, same (k .0 .v) (k .0 .answer), lessI-length u, short)),
-        ((λ p k. omega (arith, k .0 .more, same (k .0 .v) (k .0 .answer), bytes-length (k .0 .v))), tt),
-      ),
-    )
-      where
-        same : (v : List Letter) → Reads circuitText v → length v ≡ length (lessI u)
-        same v x = ap length (one-reading circuitText v (lessI u) x reads-written)
-
-        not-long : longest < length (bytes u) → ⊥
-        not-long m = h .0 0 (m, refl)
-
-        short : length u ≤ longest
-        short = omega (arith, bytes-length u, not-long)
-
-    pub round-trip : (r : Written) (new : List ℕ) → WriteOutcome e (bytes u) old r new
-        → (r′ : Written) (new′ : List ℕ) → ReadOutcome (take (r .bytes) new) old′ r′ new′
-        → lent r′ new′ ≡ lent (accepted (bytes (lessI u))) (over (bytes (lessI u)) old′)
-    round-trip r new o r′ new′ q =
-        b .is
-        ∙ ap (λ v. lent (accepted (bytes v)) (over (bytes v) old′))
-        (one-reading circuitText (b .v) (lessI u) (b .answer) reads-written)
-      where
-        b : Writes bytes (λ v. accepted (bytes v)) (Reads circuitText) old′ (lent r′ new′)
-        b =
-            answered (untouched refused old′) (Writes bytes (λ v. accepted (bytes v)) (Reads circuitText) old′) (readRefusals circuitText old′)
-            passed (lent r′ new′) (subst (λ t. ReadOutcome t old′ r′ new′) (text-there r new o) q)
+  pub round-trip : (r : Written) (new : List ℕ) → WriteOutcome e (bytes u) old r new
+      → (old′ : List ℕ) → length (lessI u) ≤ length old′ → (r′ : Written) (new′ : List ℕ) → ReadOutcome (take (r .bytes) new) old′ r′ new′
+      → lent r′ new′ ≡ lent (accepted (bytes (lessI u))) (over (bytes (lessI u)) old′)
+  round-trip r new o old′ l r′ new′ q =
+      only-read circuitText (lessI u) reads-written old′ (omega (arith, lessI-length u, bytes-length u, not-long)) l r′ new′
+      (subst (λ t. ReadOutcome t old′ r′ new′) (text-there r new o) q)
+    where
+      not-long : longest < length (bytes u) → ⊥
+      not-long m = h .0 0 (m, refl)
 
 -- ---- matrices
 -- the letters that are read of a text have its circuit's own matrix, phase included

@@ -10,8 +10,10 @@ use Rattle.exact.specs.Outcomes.Ladder.{Only, OnePlace, one-outcome}
 use Rattle.exact.specs.Outcomes.Places.{one-plain, one-letter, one-first, one-stop, one-spelled}
 use Rattle.exact.specs.Outcomes.Lent.{one-written}
 use Rattle.qasm.specs.declared.Written.{Written}
-use Rattle.qasm.specs.Meaning.{Edition, two, three, text, refused, accepted, Circuits, writeRefusals, WriteOutcome, Reads, readRefusals, ReadOutcome}
-use Rattle.qasm.specs.ReaderWays.{one-reading}
+use Rattle.circuit.specs.Meaning.{Edition, two, three, text}
+use Rattle.qasm.specs.Outcome.{refused, accepted, Circuits, writeRefusals, WriteOutcome, readRefusals, ReadOutcome}
+use Rattle.circuit.specs.Meaning.{Reads}
+use Rattle.circuit.specs.Lines.{one-reading}
 
 one-place : (e : Edition) (w old : List ℕ) → OnePlace (writeRefusals e w old)
 one-place two w old = (one-plain, (one-letter, (one-first, (one-plain, tt))))

@@ -16,11 +16,16 @@ use Rattle.lent.specs.Written.{Written as Puts, written-both, written-over}
 use Rattle.qasm.specs.declared.Written.{Written}
 use Rattle.qasm.specs.declared.Edition as Declared
 use Rattle.qasm.specs.declared.Edition.the-variants.{Two, Three}
-use Rattle.qasm.specs.declared.writer.Measured.{Measured}
-use Rattle.qasm.specs.declared.writer.Measured.the-variants.{Outside, Word}
-use Rattle.qasm.specs.Meaning.{Edition, two, three, Statement, header, lines, text, circuit, refused, accepted, Circuits, WriteOutcome}
-use Rattle.qasm.specs.Writing.{editionOf, Spells, size, Measures, PhaseIs, MeasureIs, PutsCircuit}
-use Rattle.qasm.specs.WritingLaws.{size-most, lettersOf-length}
+use Rattle.circuit_writer.specs.declared.Measured.{Measured}
+use Rattle.circuit_writer.specs.declared.Measured.the-variants.{Outside, Word}
+use Rattle.circuit.specs.Meaning.{Edition, two, three, Statement, header, lines, text, circuit}
+use Rattle.qasm.specs.Outcome.{refused, accepted, editionOf, Circuits, WriteOutcome}
+use Rattle.circuit_writer.specs.Writing.{Spells, Measures, PhaseIs, MeasureIs}
+use Rattle.circuit_writer.specs.WritingLaws.{size-most, lettersOf-length}
+
+-- ---- a header and the lines of a word, where there is room for them
+pub record PutsCircuit (head w old : List ℕ) (r : Written) (new : List ℕ) : Type 0 where
+  pub puts : Lent.Written (λ c. head ++ lines c) (λ c. accepted (head ++ lines c)) (λ c. c ≡ circuit (lettersOf w)) old refused (lent r new)
 
 -- by a refusal the lent bytes stay
 pub stays : {r : Written} {n p : ℕ} (old : List ℕ) → r ≡ refused n p → lent r old ≡ untouched refused old n p

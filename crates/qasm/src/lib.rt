@@ -1,15 +1,13 @@
 // OpenQASM 2.0 and 3.0 on one qubit: a word's circuit written, and a circuit's letters read.
-mod reader;
-mod writer;
-
-use reader::Walked;
-use writer::Measured;
+use circuit_reader::Walked;
+use circuit_writer::Measured;
 ghost use mathlib.Core.Path.{_≡_};
 ghost use Prim.Native.Nat.{_≤_};
 ghost use lib.ListN.{length};
-ghost use Rattle.qasm.specs.Meaning.{refused, WriteOutcome, ReadOutcome};
-ghost use Rattle.qasm.specs.Writing.{editionOf, Measures, PhaseIs, PutsCircuit};
-ghost use Rattle.qasm.specs.Reading.{OfCircuit};
+ghost use Rattle.qasm.specs.Outcome.{refused, editionOf, WriteOutcome, ReadOutcome};
+ghost use Rattle.circuit_writer.specs.Writing.{Measures, PhaseIs};
+ghost use Rattle.qasm.specs.WriterWays.{PutsCircuit};
+ghost use Rattle.circuit_reader.specs.Reading.{OfCircuit};
 
 // What is handed back: the refusal or 0, its place, and the bytes written.
 pub struct Written {
@@ -43,7 +41,7 @@ fn put_circuit(head: &[u8], lines: usize, word: &[u8], buf: &mut [u8]) -> Writte
         return refused(exact::ROOM, 0);
     }
     let at = lent::put(buf, 0, head);
-    writer::put_lines(buf, at, word);
+    circuit_writer::put_lines(buf, at, word);
     Written {
         refusal: exact::ACCEPTED,
         place: 0,
@@ -84,7 +82,7 @@ pub fn write(edition: Edition, word: &[u8], buf: &mut [u8]) -> Written
     if word.len() > exact::LONGEST {
         return refused(exact::LONG, 0);
     }
-    match writer::measure(word) {
+    match circuit_writer::measure(word) {
         Measured::Outside(place) => refused(exact::LETTER, place),
         Measured::Word { lines, phase } => write_word(edition, lines, phase, word, buf),
     }
@@ -101,7 +99,7 @@ fn read_circuit(text: &[u8], start: usize, letters: usize, buf: &mut [u8]) -> Wr
     if letters > buf.len() {
         return refused(exact::ROOM, 0);
     }
-    reader::put_letters(text, start, letters, buf);
+    circuit_reader::put_letters(text, start, letters, buf);
     Written {
         refusal: exact::ACCEPTED,
         place: 0,
@@ -113,7 +111,7 @@ fn read_circuit(text: &[u8], start: usize, letters: usize, buf: &mut [u8]) -> Wr
 pub fn read(text: &[u8], buf: &mut [u8]) -> Written
     ensures { λ r. ⌜ ReadOutcome (now (text .entry)) (now (buf .entry)) r (now (buf .exit)) ⌝ }
 {
-    match reader::walk(text) {
+    match circuit_reader::walk(text) {
         Walked::Stopped(place) => refused(exact::STATEMENT, place),
         Walked::Circuit { start, letters } => read_circuit(text, start, letters, buf),
     }

@@ -1,0 +1,276 @@
+// The reader: one walk tells whether a text is right and counts its letters; a second puts them, from the right.
+ghost use mathlib.Core.Path.{_≡_};
+ghost use mathlib.Core.List.{[], _∷_};
+ghost use Prim.Native.Nat.{_+_, _≤_, _<_, min};
+ghost use lib.Dec.{eqb};
+ghost use lib.ListN.{length, getD, drop};
+ghost use Rattle.circuit_reader.specs.Reading.{Along, MatchIs, LineIs, TailIs, GateIs, Headed, WalkIs, OfCircuit, Before, PutsBefore};
+ghost use Rattle.circuit_reader.specs.Reading.{Stands, PutsStatement, PutsLetters};
+
+pub enum Walked {
+    Stopped(usize),
+    // where the statements start, and how many letters they are read as
+    Circuit { start: usize, letters: usize },
+}
+
+enum Line {
+    Stopped(usize),
+    // the place behind the line, and how many letters it is read as
+    Is { next: usize, letters: usize },
+}
+
+fn lesser(a: usize, b: usize) -> usize
+    ensures { λ r. ⌜ r ≡ min a b ⌝ }
+{
+    if a < b { a } else { b }
+}
+
+// How far the text goes along with a word from a place on.
+fn along(text: &[u8], at: usize, word: &[u8]) -> usize
+    requires { ⌜ at ≤ length (now text) ⌝ }
+    ensures { λ r. ⌜ Along (drop at (now (text .entry))) (now (word .entry)) r ⌝ }
+{
+    let end = lesser(text.len() - at, word.len());
+    let mut k: usize = 0;
+    while k < end {
+        if text[at + k] != word[k] {
+            return k;
+        }
+        k += 1;
+    }
+    k
+}
+
+// Whether a byte stands at a place.
+fn stands(text: &[u8], at: usize, b: u8) -> bool
+    requires { ⌜ 0 < b ⌝ }
+    ensures { λ r. ⌜ r ≡ eqb (getD (now (text .entry)) at 0) b ⌝ }
+{
+    if at >= text.len() {
+        return false;
+    }
+    text[at] == b
+}
+
+fn matched(text: &[u8], at: usize, line: &[u8], letters: usize) -> Line
+    requires { ⌜ at ≤ length (now text) ⌝ }
+    ensures { λ r. ⌜ MatchIs (now (text .entry)) at (now (line .entry)) letters r ⌝ }
+{
+    let k = along(text, at, line);
+    if k < line.len() {
+        return Line::Stopped(at + k);
+    }
+    Line::Is {
+        next: at + k,
+        letters,
+    }
+}
+
+// The statement at a place, or where the text stops: its first two bytes tell which it can only be.
+fn other_at(text: &[u8], at: usize, phase: bool) -> Line
+    requires { ⌜ at < length (now text) ⌝ }
+    ensures { λ r. ⌜ LineIs phase (now (text .entry)) at r ⌝ }
+{
+    let b = text[at];
+    if b == b'h' {
+        return matched(text, at, b"h q[0];\n", 1);
+    }
+    if b == b'x' {
+        return matched(text, at, b"x q[0];\n", 1);
+    }
+    if b == b's' {
+        if stands(text, at + 1, b'd') {
+            return matched(text, at, b"sdg q[0];\n", 3);
+        }
+        return matched(text, at, b"s q[0];\n", 1);
+    }
+    if b == b't' {
+        if stands(text, at + 1, b'd') {
+            return matched(text, at, b"tdg q[0];\n", 4);
+        }
+        return matched(text, at, b"t q[0];\n", 1);
+    }
+    if b != b'g' {
+        return Line::Stopped(at);
+    }
+    if !phase {
+        return Line::Stopped(at);
+    }
+    matched(text, at, b"gphase(pi/4);\n", 1)
+}
+
+// Whether ` q[0];` and LF stand at a place.
+fn tail_at(text: &[u8], at: usize) -> bool
+    requires { ⌜ at + 7 ≤ length (now text) ⌝ }
+    ensures { λ r. ⌜ TailIs (now (text .entry)) at r ⌝ }
+{
+    if text[at] != b' ' {
+        return false;
+    }
+    if text[at + 1] != b'q' {
+        return false;
+    }
+    if text[at + 2] != b'[' {
+        return false;
+    }
+    if text[at + 3] != b'0' {
+        return false;
+    }
+    if text[at + 4] != b']' {
+        return false;
+    }
+    if text[at + 5] != b';' {
+        return false;
+    }
+    text[at + 6] == b'\n'
+}
+
+// Whether a gate has the name.
+fn is_gate(b: u8) -> bool
+    ensures { λ r. ⌜ GateIs b r ⌝ }
+{
+    match b {
+        b'h' => true,
+        b's' => true,
+        b't' => true,
+        b'x' => true,
+        _ => false,
+    }
+}
+
+// The statement at a place; most are gates with a name of one letter, and are told at once.
+fn line_at(text: &[u8], at: usize, phase: bool) -> Line
+    requires { ⌜ at < length (now text) ⌝ }
+    ensures { λ r. ⌜ LineIs phase (now (text .entry)) at r ⌝ }
+{
+    if text.len() - at >= 8 {
+        if is_gate(text[at]) {
+            if tail_at(text, at + 1) {
+                return Line::Is {
+                    next: at + 8,
+                    letters: 1,
+                };
+            }
+        }
+    }
+    other_at(text, at, phase)
+}
+
+fn lines_from(text: &[u8], start: usize, phase: bool) -> Walked
+    requires { ⌜ Headed (now text) start phase ⌝ }
+    ensures { λ r. ⌜ WalkIs (now (text .entry)) r ⌝ }
+{
+    let mut at = start;
+    let mut letters: usize = 0;
+    while at < text.len() {
+        match line_at(text, at, phase) {
+            Line::Stopped(place) => {
+                return Walked::Stopped(place);
+            }
+            Line::Is { next, letters: n } => {
+                at = next;
+                letters += n;
+            }
+        }
+    }
+    Walked::Circuit { start, letters }
+}
+
+// The header's tenth byte tells the edition that it can only be.
+pub fn walk(text: &[u8]) -> Walked
+    ensures { λ r. ⌜ WalkIs (now (text .entry)) r ⌝ }
+{
+    if stands(text, 9, b'3') {
+        let k = along(
+            text,
+            0,
+            b"OPENQASM 3.0;\ninclude \"stdgates.inc\";\nqubit[1] q;\n",
+        );
+        if k < 50 {
+            return Walked::Stopped(k);
+        }
+        return lines_from(text, 50, true);
+    }
+    let k = along(
+        text,
+        0,
+        b"OPENQASM 2.0;\ninclude \"qelib1.inc\";\nqreg q[1];\n",
+    );
+    if k < 47 {
+        return Walked::Stopped(k);
+    }
+    lines_from(text, 47, false)
+}
+
+struct Step {
+    at: usize,
+    left: usize,
+}
+
+// A byte put before a place, which is then its own.
+fn put_before(buf: &mut [u8], left: usize, b: u8) -> usize
+    requires { ⌜ (0 < left) × (left ≤ length (now buf)) ⌝ }
+    ensures { λ r. ⌜ Before (now (buf .entry)) left b (now (buf .exit)) r ⌝ }
+{
+    buf[left - 1] = b;
+    left - 1
+}
+
+// SSS.
+fn put_esses(buf: &mut [u8], left: usize) -> usize
+    requires { ⌜ (3 ≤ left) × (left ≤ length (now buf)) ⌝ }
+    ensures { λ r. ⌜ PutsBefore (now (buf .entry)) left (83 ∷ 83 ∷ 83 ∷ []) (now (buf .exit)) r ⌝ }
+{
+    let second = put_before(buf, left, b'S');
+    let third = put_before(buf, second, b'S');
+    put_before(buf, third, b'S')
+}
+
+// The letters of the statement at a place, put before a place of the buffer; its second byte tells its kind.
+fn put_statement(text: &[u8], at: usize, buf: &mut [u8], left: usize) -> Step
+    requires { ⌜ Stands (now text) at left (length (now buf)) ⌝ }
+    ensures { λ r. ⌜ PutsStatement (now (text .entry)) at left (now (buf .entry)) r (now (buf .exit)) ⌝ }
+{
+    let b = text[at];
+    let kind = text[at + 1];
+    if kind == b' ' {
+        // a letter is its gate's name in upper case
+        let first = put_before(buf, left, b - 32);
+        return Step {
+            at: at + 8,
+            left: first,
+        };
+    }
+    if kind != b'd' {
+        let first = put_before(buf, left, b'W');
+        return Step {
+            at: at + 14,
+            left: first,
+        };
+    }
+    let esses = put_esses(buf, left);
+    if b == b's' {
+        return Step {
+            at: at + 10,
+            left: esses,
+        };
+    }
+    let first = put_before(buf, esses, b'T');
+    Step {
+        at: at + 10,
+        left: first,
+    }
+}
+
+pub fn put_letters(text: &[u8], start: usize, letters: usize, buf: &mut [u8])
+    requires { ⌜ OfCircuit (now text) start letters ⌝ ∗ ⌜ letters ≤ length (now buf) ⌝ }
+    ensures { λ r. ⌜ PutsLetters (now (text .entry)) (now (buf .entry)) (now (buf .exit)) ⌝ }
+{
+    let mut at = start;
+    let mut left = letters;
+    while at < text.len() {
+        let step = put_statement(text, at, buf, left);
+        at = step.at;
+        left = step.left;
+    }
+}

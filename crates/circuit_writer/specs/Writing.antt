@@ -1,0 +1,57 @@
+-- What the writer's functions promise one another: a word measured, and its lines put. Assumes nothing.
+use mathlib.Core.Path.{_≡_, refl, sym, _∙_, ap, ap₂, subst}
+use mathlib.Core.Logic.{_⊎_, inl, inr}
+use mathlib.Core.Bool.{cond}
+use mathlib.Core.List.{List, [], _∷_, _++_, append-nil, append-assoc}
+use Prim.Native.Nat.{ℕ, zero, suc, _+_, _-_, _*_, _<_, _≤_}
+use native.Mathlib.Numerals.{add-one}
+use native.Mathlib.Omega.{arith}
+use lib.Dec.{eqb, ltb}
+use lib.ListN.{length, take, drop, getD, length-append}
+use lib.Seq.{take-suc, take-all, drop-cons}
+use Rattle.exact.specs.Meaning.Word.{Letter, I, H, S, X, W, T′, byte, bytes, job2, In, FirstOutside, First}
+use Rattle.exact.specs.Meaning.Lent.{lent}
+use Rattle.exact.specs.Cases.Letters.{letterOf, letterOf-byte, lettersOf, lettersOf-bytes}
+use Rattle.exact.specs.Outcomes.Lent as Outcomes
+use Rattle.lent.specs.Written.{Written as Puts, written-both}
+use Rattle.circuit_writer.specs.declared.Measured as Measured
+use Rattle.circuit_writer.specs.declared.Measured.the-variants.{Outside, Word}
+use Rattle.circuit.specs.Meaning.{Edition, two, three, Statement, lines, text, statementOf, circuit}
+use Rattle.circuit.specs.Lines.{lines-append}
+
+-- ---- bytes that are letters
+pub record IsLetter (b : ℕ) : Type 0 where
+  pub is : byte (letterOf b) ≡ b
+
+pub record Spells (w : List ℕ) : Type 0 where
+  pub is : bytes (lettersOf w) ≡ w
+
+-- ---- the bytes of a letter's line, and of a word's
+abbrev pub sizeOf : Letter → ℕ
+sizeOf l = length (lines (statementOf l))
+
+abbrev pub size : List Letter → ℕ
+size u = length (lines (circuit u))
+
+-- by a letter's byte; 255 is no letter's
+pub data SizeIs (b r : ℕ) : Type 0 where
+  letter : (l : Letter) → byte l ≡ b → r ≡ sizeOf l → SizeIs b r
+  no-letter : (In job2 b → ⊥) → r ≡ 255 → SizeIs b r
+
+-- ---- a word measured
+pub record Measures (w : List ℕ) (n : ℕ) : Type 0 where
+  pub spells : Spells w
+  pub is : n ≡ size (lettersOf w)
+
+-- the place of the first W, or the length
+pub record PhaseIs (w : List ℕ) (p : ℕ) : Type 0 where
+  pub upto : p ≤ length w
+  pub before : (i : ℕ) → i < p → getD w i 0 ≡ byte W → ⊥
+  pub there : p < length w → getD w p 0 ≡ byte W
+
+abbrev pub pastPhase : ℕ → ℕ → ℕ → ℕ
+pastPhase p i b = cond (ltb p i) p (cond (eqb b 87) i (i + 1))
+
+abbrev pub MeasureIs : List ℕ → Measured.Measured → Type 0
+MeasureIs w (Outside p) = FirstOutside job2 w p
+MeasureIs w (Word n p) = Measures w n × PhaseIs w p
