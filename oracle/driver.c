@@ -16,6 +16,9 @@ void dunrossel_clifford_inverse(const int *x, int *out);
 void dunrossel_clifford_coset(const int *x, int *out);
 u8 dunrossel_view(i64 k, u8 n, const i64 *zw, double *out);
 u64 dunrossel_bench(const u8 *record, u64 len, u8 *out);
+u8 dunrossel_qasm2_write(const u8 *word, u64 len, u8 *buf, u64 room, u64 *out);
+u8 dunrossel_qasm3_write(const u8 *word, u64 len, u8 *buf, u64 room, u64 *out);
+u8 dunrossel_qasm_read(const u8 *text, u64 len, u8 *buf, u64 room, u64 *out);
 
 static i64 sys(i64 n, i64 a, i64 b, i64 c, i64 d, i64 e) {
   register i64 r10 __asm__("r10") = d;
@@ -70,6 +73,9 @@ static u64 call(u64 job, const u64 *a) {
   case 7: dunrossel_clifford_coset((int *)a[0], (int *)a[1]); return 0;
   case 8: return dunrossel_view((i64)a[0], (u8)a[1], (i64 *)a[2], (double *)a[3]);
   case 9: return dunrossel_bench((u8 *)a[0], a[1], (u8 *)a[2]);
+  case 10: return dunrossel_qasm2_write((u8 *)a[0], a[1], (u8 *)a[2], a[3], (u64 *)a[4]);
+  case 11: return dunrossel_qasm3_write((u8 *)a[0], a[1], (u8 *)a[2], a[3], (u64 *)a[4]);
+  case 12: return dunrossel_qasm_read((u8 *)a[0], a[1], (u8 *)a[2], a[3], (u64 *)a[4]);
   }
   end(3);
 }
@@ -117,7 +123,8 @@ static void print(const char *name, u64 n) {
   write_bytes(" |\n", 3);
 }
 
-static u8 word[4096], text[12320];
+enum { CIRCUIT = 64 + 8 * 4096 }; // a head, and 4,096 lines of eight bytes
+static u8 word[4096], text[12320], circuit[CIRCUIT];
 static i64 numbers[10];
 static u64 out[10];
 static void stacks(void) {
@@ -126,12 +133,15 @@ static void stacks(void) {
   static const u8 record[] = "k=60\nn=255\nz=0,0,0,1073741824\nw=0,0,0,0\n";
   static const int x[4] = {1, 1, 0, 0};
   for (int i = 0; i < 4096; i++) word[i] = i % 3 == 1 ? 'H' : 'T';
-  u64 w = (u64)word, t = (u64)text, o = (u64)out, m = (u64)numbers, z = (u64)deep, c = (u64)x;
+  u64 w = (u64)word, t = (u64)text, o = (u64)out, m = (u64)numbers, z = (u64)deep, c = (u64)x, l = (u64)circuit;
   write_bytes(head, sizeof head - 1);
   print("dunrossel_reduce", taken(0, (u64[]){60, 0, z, m}));
   print("dunrossel_matrix", taken(1, (u64[]){w, 4096, m, o}));
   print("dunrossel_normalise", taken(2, (u64[]){w, 4096, t, 12320, o}));
   print("dunrossel_phase_free", taken(3, (u64[]){w, 4096, t, 12320, o}));
+  print("dunrossel_qasm2_write", taken(10, (u64[]){w, 4096, l, CIRCUIT, o}));
+  print("dunrossel_qasm3_write", taken(11, (u64[]){w, 4096, l, CIRCUIT, o}));
+  print("dunrossel_qasm_read", taken(12, (u64[]){l, out[1], t, 12320, o}));
   // H·T^a·H·T^b..: a triple that synthesis takes apart in many steps.
   for (int i = 0; i < 100; i++) word[i] = i % 2 ? 'T' : 'H';
   dunrossel_matrix(word, 100, numbers, out);

@@ -35,9 +35,12 @@ pub enum Job {
     Coset,
     View,
     Bench,
+    Qasm2Write,
+    Qasm3Write,
+    QasmRead,
 }
 
-pub const JOBS: [Job; 10] = [
+pub const JOBS: [Job; 13] = [
     Job::Reduce,
     Job::Matrix,
     Job::Normalise,
@@ -48,6 +51,9 @@ pub const JOBS: [Job; 10] = [
     Job::Coset,
     Job::View,
     Job::Bench,
+    Job::Qasm2Write,
+    Job::Qasm3Write,
+    Job::QasmRead,
 ];
 
 /// The refusal number; one of the numbers; the first byte of the lent buffer; the first byte beyond the length;
@@ -142,7 +148,7 @@ impl State {
 
     fn shown(&mut self, n: usize) -> String {
         let n = n.min(self.lent);
-        String::from_utf8_lossy(&self.library.memory()[LENT + GUARD..LENT + GUARD + n]).into_owned()
+        self.library.memory()[LENT + GUARD..LENT + GUARD + n].escape_ascii().to_string()
     }
 }
 
@@ -220,7 +226,7 @@ pub fn coset(x: &[i32; 4]) -> Option<[i32; 5]> {
     clifford(Job::Coset, x, x, &[Word::At(IN), Word::At(OUT)])
 }
 
-/// What a job that writes a word must answer.
+/// What a job that writes a word, or a circuit's text, must answer.
 #[derive(Clone, PartialEq, Debug, Default)]
 pub struct Written {
     pub refusal: u8,
@@ -239,18 +245,19 @@ impl Written {
     }
 }
 
-/// Calls a job that writes a word and compares everything it can have changed; the difference as text if there is one.
-fn writes(job: Job, room: usize, expected: &Written, input: &[u8], args: &[Word]) -> Option<String> {
+/// Calls a job that writes into lent memory and has N numbers, and compares everything it can have changed; the
+/// difference as text if there is one.
+fn writes<const N: usize>(job: Job, room: usize, expected: &Written, input: &[u8], args: &[Word]) -> Option<String> {
     STATE.with_borrow_mut(|s| {
         s.lend(room, expected.word.len());
-        let wanted = expected.numbers();
+        let wanted: [u64; N] = expected.numbers()[..N].try_into().unwrap();
         let got = s.numbers(job, input, args);
         let lent = s.holds(&expected.word);
         if got == Some((expected.refusal, wanted)) && lent {
             return None;
         }
         let shown = got.map_or(String::new(), |(_, out)| s.shown(out[1] as usize));
-        let word = String::from_utf8_lossy(&expected.word);
+        let word = expected.word.escape_ascii();
         let memory = if lent { "right" } else { "wrong" };
         Some(format!("expected {} {wanted:?} {word}, got {got:?} {shown}, lent memory {memory}", expected.refusal))
     })
@@ -262,16 +269,22 @@ fn word_args(word: &[u8], room: usize) -> [Word; 5] {
 }
 
 pub fn normalise(word: &[u8], room: usize, expected: &Written) -> Option<String> {
-    writes(Job::Normalise, room, expected, word, &word_args(word, room))
+    writes::<3>(Job::Normalise, room, expected, word, &word_args(word, room))
 }
 
 pub fn phase_free(word: &[u8], room: usize, expected: &Written) -> Option<String> {
-    writes(Job::PhaseFree, room, expected, word, &word_args(word, room))
+    writes::<3>(Job::PhaseFree, room, expected, word, &word_args(word, room))
 }
 
 pub fn synthesise(k: i64, n: u8, zw: &[i64; 8], room: usize, expected: &Written) -> Option<String> {
     let (input, [k, n, zw, out]) = triple(k, n, zw);
-    writes(Job::Synthesise, room, expected, &input, &[k, n, zw, Word::At(LENT + GUARD), Word::Number(room as u64), out])
+    let args = [k, n, zw, Word::At(LENT + GUARD), Word::Number(room as u64), out];
+    writes::<3>(Job::Synthesise, room, expected, &input, &args)
+}
+
+/// A word written as a circuit, or a circuit's text read.
+pub fn circuit(job: Job, input: &[u8], room: usize, expected: &Written) -> Option<String> {
+    writes::<2>(job, room, expected, input, &word_args(input, room))
 }
 
 /// The bench record's answer against the expected text.
@@ -283,6 +296,6 @@ pub fn bench(record: &[u8], expected: &[u8]) -> Option<String> {
         let size = s.result as usize;
         let right = untouched && size == expected.len() && s.holds(expected);
         let shown = s.shown(size);
-        (!right).then(|| format!("expected {:?}, got {size} {shown:?}", String::from_utf8_lossy(expected)))
+        (!right).then(|| format!("expected {}, got {size} {shown}", expected.escape_ascii()))
     })
 }

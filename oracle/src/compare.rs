@@ -5,6 +5,8 @@
 //!     compare --sample DIR         writes the replay sample to DIR/stdin and DIR/stdout
 
 mod abi;
+mod circuit_runs;
+mod circuits;
 mod cliffords;
 mod differences;
 mod exact;
@@ -12,11 +14,13 @@ mod inputs;
 mod integers;
 mod library;
 mod plants;
+mod qasm;
 mod records;
 mod report;
 mod runs;
 mod rust;
 mod sample;
+mod sample_circuits;
 mod triples;
 mod view;
 mod words;
@@ -44,6 +48,13 @@ fn every_run(report: &mut Report) {
     timed(report, "random triples to exponent 60", |r| runs::deep(r, 60));
     timed(report, "Cliffords", |r| runs::all_cliffords(r, 16));
     timed(report, "bench records", |r| runs::bench_records(r, 3000));
+    timed(report, "OpenQASM, every circuit of up to 4 statements", circuit_runs::every_circuit);
+    timed(report, "OpenQASM, damaged texts", circuit_runs::damaged);
+    timed(report, "OpenQASM, heads and lines", circuit_runs::heads);
+    timed(report, "OpenQASM, every word of up to 4 letters", |r| circuit_runs::every_word(r, 4));
+    timed(report, "OpenQASM, bytes in words", circuit_runs::every_byte);
+    timed(report, "OpenQASM, around 4,096 letters", circuit_runs::limits);
+    timed(report, "OpenQASM, random", |r| circuit_runs::random(r, 2000));
     timed(report, "listed differences", differences::all);
 }
 
@@ -84,6 +95,7 @@ fn main() -> ExitCode {
 fn usage() -> ExitCode {
     eprintln!("compare [--plant JOB:CALL:PART | --sample DIR]");
     eprintln!("JOB: reduce matrix normalise phasefree synthesise product inverse coset view bench");
+    eprintln!("     qasm2write qasm3write qasmread");
     eprintln!("PART: refusal, number, byte, beyond, after");
     ExitCode::from(2)
 }

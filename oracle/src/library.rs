@@ -41,6 +41,9 @@ pub mod c {
         pub fn dunrossel_clifford_coset(x: *const i32, out: *mut i32);
         pub fn dunrossel_view(k: i64, n: u8, zw: *const i64, out: *mut f64) -> u8;
         pub fn dunrossel_bench(record: *const u8, len: usize, out: *mut u8) -> usize;
+        pub fn dunrossel_qasm2_write(word: *const u8, len: usize, buf: *mut u8, room: usize, out: *mut u64) -> u8;
+        pub fn dunrossel_qasm3_write(word: *const u8, len: usize, buf: *mut u8, room: usize, out: *mut u64) -> u8;
+        pub fn dunrossel_qasm_read(text: *const u8, len: usize, buf: *mut u8, room: usize, out: *mut u64) -> u8;
     }
 }
 
@@ -94,6 +97,9 @@ impl Library {
                 }
                 Job::View => c::dunrossel_view(n(0) as i64, n(1) as u8, p!(2), p!(3)) as u64,
                 Job::Bench => c::dunrossel_bench(p!(0), size(1), p!(2)) as u64,
+                Job::Qasm2Write => c::dunrossel_qasm2_write(p!(0), size(1), p!(2), size(3), p!(4)) as u64,
+                Job::Qasm3Write => c::dunrossel_qasm3_write(p!(0), size(1), p!(2), size(3), p!(4)) as u64,
+                Job::QasmRead => c::dunrossel_qasm_read(p!(0), size(1), p!(2), size(3), p!(4)) as u64,
             }
         }
     }

@@ -1,6 +1,7 @@
 //! Wrong answers planted one at a time, in every part of every job's answer: each must be found.
 
 use crate::abi::{set_plant, Job, Part, Plant, JOBS};
+use crate::circuit_runs;
 use crate::inputs::cliffords;
 use crate::records::record;
 use crate::report::Report;
@@ -30,6 +31,7 @@ fn parts(job: Job) -> Vec<Part> {
         Job::Coset => (false, 5, false),
         Job::View => (true, 8, false),
         Job::Bench => (false, 1, true),
+        Job::Qasm2Write | Job::Qasm3Write | Job::QasmRead => (true, 2, true),
     };
     let mut all: Vec<Part> = (0..numbers).map(Part::Number).collect();
     if refuses {
@@ -44,6 +46,7 @@ fn parts(job: Job) -> Vec<Part> {
 /// A few calls of every job.
 fn small_run(report: &mut Report) {
     runs::every_word(report, 2);
+    circuit_runs::few(report);
     for (i, x) in cliffords().iter().enumerate().step_by(9) {
         crate::cliffords::product(report, x, &[i as i32, 1, -1, 3]);
         crate::cliffords::inverse(report, x);

@@ -6,11 +6,11 @@ use crate::inputs::{self, cliffords, raised, Random, Triple, JOB_2, JOB_3};
 use crate::report::Report;
 use crate::runs::triple_of;
 use crate::words::{self, fitting, less_final_w};
-use crate::{cliffords as job_6, records, rust, triples};
+use crate::{cliffords as job_6, records, rust, sample_circuits, triples};
 use std::process::ExitCode;
 
 #[derive(Default)]
-struct Sample {
+pub struct Sample {
     requests: Vec<u8>,
     answers: Vec<u8>,
     count: usize,
@@ -31,11 +31,16 @@ impl Sample {
         self.count += 1;
     }
 
-    fn add_written(&mut self, job: char, room: usize, payload: &[u8], expected: &Written) {
+    /// The refusal, the first N numbers, and the whole lent buffer.
+    pub fn add_lent<const N: usize>(&mut self, job: char, room: usize, payload: &[u8], expected: &Written) {
         let mut lent = vec![b'.'; room];
         lent[..expected.word.len()].copy_from_slice(&expected.word);
-        let numbers = format!("{} {} ", expected.refusal, joined(&expected.numbers()));
+        let numbers = format!("{} {} ", expected.refusal, joined(&expected.numbers()[..N]));
         self.add(job, room, payload, &[numbers.as_bytes(), &lent].concat());
+    }
+
+    fn add_written(&mut self, job: char, room: usize, payload: &[u8], expected: &Written) {
+        self.add_lent::<3>(job, room, payload, expected);
     }
 
     /// Jobs 3 and 5, with this much more or less room than the answer takes.
@@ -224,6 +229,7 @@ pub fn write(folder: &str) -> ExitCode {
     pairs(&mut s);
     all_triples(&mut s);
     all_cliffords(&mut s);
+    sample_circuits::all(&mut s);
     if s.report.unexplained > 0 {
         return ExitCode::FAILURE;
     }

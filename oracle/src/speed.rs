@@ -1,6 +1,6 @@
-//! Times the library and the published Rust on the same inputs in one process, and prints a table for docs/SPEED.md.
+//! Times the library and the published Rust on the same inputs in one process, and prints tables for docs/SPEED.md.
 //! A round times both, one after the other; the ratio is taken round by round. A word that takes the Rust's SHT arm
-//! is timed as any other.
+//! is timed as any other. OpenQASM, which the Rust has not, is timed against plain.rs.
 
 #[allow(dead_code)]
 mod abi;
@@ -10,8 +10,10 @@ mod exact;
 mod inputs;
 #[allow(dead_code)]
 mod library;
+mod plain;
 #[allow(dead_code)]
 mod rust;
+mod speed_circuits;
 
 use inputs::{Random, Triple, JOB_2, JOB_3};
 use library::c;
@@ -62,16 +64,20 @@ impl Row {
             println!("| {} | | {:.3} | {each} | |", self.what, ours / 1000.0);
             return;
         }
-        let ratios: Vec<f64> = self.rust.iter().zip(&self.ours).map(|(r, o)| r / o).collect();
-        let least = ratios.iter().copied().fold(f64::INFINITY, f64::min);
-        let most = ratios.iter().copied().fold(0.0, f64::max);
+        let [middle, least, most] = self.ratios();
         println!(
-            "| {} | {:.3} | {:.3} | {each} | {:.1} ({least:.1} to {most:.1}) |",
+            "| {} | {:.3} | {:.3} | {each} | {middle:.1} ({least:.1} to {most:.1}) |",
             self.what,
             median(&self.rust) / 1000.0,
             ours / 1000.0,
-            median(&ratios),
         );
+    }
+
+    /// Median, least and most.
+    fn ratios(&self) -> [f64; 3] {
+        let ratios: Vec<f64> = self.rust.iter().zip(&self.ours).map(|(r, o)| r / o).collect();
+        let least = ratios.iter().copied().fold(f64::INFINITY, f64::min);
+        [median(&ratios), least, ratios.iter().copied().fold(0.0, f64::max)]
     }
 }
 
@@ -84,7 +90,7 @@ fn race<'a, I, P>(
     ours: impl Fn(&'a I),
     prepare: impl Fn(&'a I) -> P,
     rust: impl Fn(P),
-) {
+) -> Row {
     let mut row = Row { what, per, ours: Vec::new(), rust: Vec::new() };
     for round in 0..=ROUNDS {
         let calls = inputs.len() * turns;
@@ -96,7 +102,7 @@ fn race<'a, I, P>(
             row.rust.push(b);
         }
     }
-    row.print();
+    row
 }
 
 fn alone<I>(what: String, inputs: &[I], turns: usize, ours: impl Fn(&I)) {
@@ -185,14 +191,24 @@ fn main() {
             |w| {
                 black_box(NormalForm::from_gates(w).to_gates());
             },
-        );
+        )
+        .print();
     }
     for k in [10, 30, 60] {
         let inputs = triples(&mut random, k, 100);
         let prepare = |(k, n, zw): &Triple| access::triple(*k, *n, zw);
-        race(format!("synthesise, k = {k}"), 0.0, &inputs, 5, |t| synthesise(t, &lent), prepare, |u| {
-            black_box(decompose_domega_unitary(u));
-        });
+        race(
+            format!("synthesise, k = {k}"),
+            0.0,
+            &inputs,
+            5,
+            |t| synthesise(t, &lent),
+            prepare,
+            |u| {
+                black_box(decompose_domega_unitary(u));
+            },
+        )
+        .print();
     }
     let calm: Vec<u8> = [b"HSXW".repeat(16), b"T".to_vec()].concat();
     for (letters, name, len, n) in [
@@ -212,9 +228,11 @@ fn main() {
             |w| {
                 black_box(DOmegaUnitary::from_gates(w));
             },
-        );
+        )
+        .print();
     }
     for k in [10, 60] {
         alone(format!("numeric view, k = {k}"), &triples(&mut random, k, 100), 50, view);
     }
+    speed_circuits::table();
 }

@@ -62,7 +62,7 @@ pub enum Rooms {
     All,
 }
 
-fn rooms(which: Rooms, answer: usize, turn: usize) -> Vec<usize> {
+pub fn rooms(which: Rooms, answer: usize, turn: usize) -> Vec<usize> {
     match which {
         Rooms::All => vec![answer, answer + 1, answer + 40, answer.saturating_sub(1), answer / 2, 0],
         Rooms::One => vec![[answer, answer + 3, answer.saturating_sub(1), 376][turn % 4]],

@@ -2,6 +2,7 @@
 use clifford::Axis;
 use clifford::Clifford;
 use normal_form::Written;
+use qasm::Edition;
 use record::Record;
 use ring::ZOmega;
 use shown::number;
@@ -78,6 +79,24 @@ fn written(answer: Written, lent: &[u8]) {
     and_number(answer.tees as u64);
     text(b" ");
     text(lent);
+}
+
+fn circuit(answer: qasm::Written, lent: &[u8]) {
+    number(answer.refusal as u64);
+    and_number(answer.place as u64);
+    and_number(answer.bytes as u64);
+    text(b" ");
+    text(lent);
+}
+
+fn write_circuit(edition: Edition, word: &[u8], lent: &mut [u8]) {
+    let answer = qasm::write(edition, word, lent);
+    circuit(answer, lent);
+}
+
+fn read_circuit(payload: &[u8], lent: &mut [u8]) {
+    let answer = qasm::read(payload, lent);
+    circuit(answer, lent);
 }
 
 fn normalise(word: &[u8], lent: &mut [u8]) {
@@ -186,12 +205,15 @@ fn of_record(job: u8, r: Record, lent: &mut [u8]) {
     }
 }
 
-// The payload of 2, 3 and 5 is a word, that of the others a bench record.
+// The payload of 2, 3, 5, Q and G is a word, that of R a circuit's text, that of the others a bench record.
 pub fn answer(job: u8, payload: &[u8], lent: &mut [u8]) {
     match job {
         b'2' => from_gates(payload),
         b'3' => normalise(payload, lent),
         b'5' => phase_free(payload, lent),
+        b'Q' => write_circuit(Edition::Two, payload, lent),
+        b'G' => write_circuit(Edition::Three, payload, lent),
+        b'R' => read_circuit(payload, lent),
         _ => of_record(job, record::read(payload), lent),
     }
 }

@@ -3,7 +3,7 @@ mod jobs;
 mod requests;
 
 fn main() {
-    let mut payload = [0u8; 4608];
-    let mut lent = [0u8; 1536];
+    let mut payload = [0u8; 10496];
+    let mut lent = [0u8; 4608];
     requests::all(&mut payload, &mut lent);
 }
