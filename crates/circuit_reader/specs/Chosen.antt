@@ -1,6 +1,6 @@
 -- Which statement a line can only be, by its first two bytes, and where it stops being it; and the same of the header, by its tenth.
 -- Assumes nothing.
-use mathlib.Core.Path.{_≡_, refl, sym, _∙_, ap, subst}
+use mathlib.Core.Path.{_≡_, refl, sym, _∙_, ap, ap₂, subst}
 use mathlib.Core.Logic.{_⊎_, inl, inr}
 use mathlib.Core.Bool.{Bool, true, false, not, _||_}
 use mathlib.Core.List.{List, _++_}
@@ -8,7 +8,7 @@ use Prim.Native.Nat.{ℕ, _+_, _-_, _<_, _≤_}
 use native.Mathlib.Nat.{add-zero}
 use native.Mathlib.Omega.{arith}
 use borrow.Author.Tests.{eqb-true, eqb-false, ltb-true, ltb-false}
-use lib.Dec.{T, eqb, ltb, eqb→eq}
+use lib.Dec.{T, eqb, ltb, eqb→eq, lit<}
 use lib.ListN.{length, take, drop, getD, length-drop, take-append-drop}
 use mir.Facts.{or-yes}
 use lib.Seq.{getD-drop, getD-take, take-all}
@@ -18,7 +18,7 @@ use Rattle.circuit_reader.specs.declared.Line.the-variants as Line
 use Rattle.circuit.specs.Meaning.{Edition, two, three, Statement, h′, s′, t′, x′, sdg, tdg, gphase, allowed, header, Right, readAs}
 use Rattle.circuit.specs.Lines.{lineOf, Each, each, line-long, number, same-number, computed}
 use Rattle.circuit.specs.Stuck.{Parts, Stuck, header-stops, IsLine}
-use Rattle.circuit_reader.specs.Reading.{Along, MatchIs, LineIs, Headed}
+use Rattle.circuit_reader.specs.Reading.{Along, MatchIs, LineIs, SameIs, Heading, Headed}
 
 -- ---- a line that can only be the statement a: every other differs from it in the first byte or the second
 pub record Chosen (s : List ℕ) (at : ℕ) (a : Statement) : Type 0 where
@@ -190,66 +190,88 @@ module _ (s : List ℕ) (at : ℕ) (phase : Bool) (l : at < length s) (h : getD 
       no-phase false e u f = u
 
 -- ---- the header
-module _ (s : List ℕ) where
-  -- both headers have the same bytes before the tenth
-  alike : (k : ℕ) → k < 9 → getD (header two) k 0 ≡ getD (header three) k 0
-  alike k l = sym (getD-take 9 (header two) k 0 l) ∙ getD-take 9 (header three) k 0 l
+-- both headers have the same bytes before the tenth
+alike : (d e : Edition) (k : ℕ) → k < 9 → getD (header d) k 0 ≡ getD (header e) k 0
+alike two two k l = refl
+alike two three k l = sym (getD-take 9 (header two) k 0 l) ∙ getD-take 9 (header three) k 0 l
+alike three two k l = sym (getD-take 9 (header three) k 0 l) ∙ getD-take 9 (header two) k 0 l
+alike three three k l = refl
 
-  header-parts : (d e : Edition) (k : ℕ) → Along s (header e) k → k < length (header e)
-      → ((k : ℕ) → k < 9 → getD (header d) k 0 ≡ getD (header e) k 0) → 9 < length (header d) → (getD s 9 0 ≡ getD (header d) 9 0 → ⊥)
-      → Parts s (header d) k
-  header-parts d e k g less same long n = go (ltb k 9) refl
-    where
-      go : (z : Bool) → ltb k 9 ≡ z → Parts s (header d) k
-      go true q =
-          let m : k < 9 = ltb-true k 9 q in
-          record { at = k; upto = omega arith; within = omega arith; differ = λ u v. g .differ less u (v ∙ same k m) }
-      go false q = record { at = 9; upto = ltb-false k 9 q; within = long; differ = λ u. n }
+header-long : (d : Edition) → 9 < length (header d)
+header-long two = lit< tt
+header-long three = lit< tt
 
-  itself : (e : Edition) (k : ℕ) → Along s (header e) k → k < length (header e) → Parts s (header e) k
-  itself e k g less = record { at = k; upto = omega arith; within = less; differ = g .differ less }
+module _ {s head : List ℕ} {phase : Bool} (h : Heading s head phase) {k : ℕ} (g : Along s head k) where
+  g′ : Along s (header (h .edition)) k
+  g′ = subst (λ w. Along s w k) (h .head-is) g
 
-  header-stuck : (e : Edition) (k : ℕ) → Along s (header e) k → ((d : Edition) → Parts s (header d) k) → Stops Right s k
-  header-stuck e k g parts =
+  module _ (less : k < length (header (h .edition))) where
+    heading-parts : (d : Edition) → Parts s (header d) k
+    heading-parts d = go (h .others d)
+      where
+        before : (z : Bool) → ltb k 9 ≡ z → (getD s 9 0 ≡ getD (header d) 9 0 → ⊥) → Parts s (header d) k
+        before true q n =
+            let m : k < 9 = ltb-true k 9 q in
+            record {
+              at = k;
+              upto = omega arith;
+              within = omega (arith, header-long d);
+              differ = λ u v. g′ .differ less u (v ∙ alike d (h .edition) k m);
+            }
+        before false q n = record { at = 9; upto = ltb-false k 9 q; within = header-long d; differ = λ u. n }
+
+        go : (d ≡ h .edition) ⊎ (getD s 9 0 ≡ getD (header d) 9 0 → ⊥) → Parts s (header d) k
+        go (inl e) =
+            subst (λ x. Parts s (header x) k) (sym e) (record { at = k; upto = omega arith; within = less; differ = g′ .differ less })
+        go (inr n) = before (ltb k 9) refl n
+
+  pub heading-stops : k < length head → Stops Right s k
+  heading-stops l =
       header-stops s k
       (record {
-        word = header e;
-        next = record { edition = e; is = refl };
-        upto = g .upto;
-        along = g .along;
-        parts = λ w i. subst (λ x. Parts s x k) (sym (i .is)) (parts (i .edition));
+        word = header (h .edition);
+        next = record { edition = h .edition; is = refl };
+        upto = g′ .upto;
+        along = g′ .along;
+        parts = λ w i. subst (λ x. Parts s x k) (sym (i .is)) (heading-parts (omega (arith, ap length (h .head-is))) (i .edition));
       })
 
-  module _ (z : Bool) (looked : z ≡ eqb (getD s 9 0) 51) (k : ℕ) where
-    pub stops-three : z ≡ true → Along s (header three) k → k < 50 → Stops Right s k
-    stops-three is-three g less = header-stuck three k g parts
-      where
-        parts : (d : Edition) → Parts s (header d) k
-        parts two =
-            header-parts two three k g less alike (omega arith)
-            (λ e. let q : getD s 9 0 ≡ 51 = eqb-true (getD s 9 0) 51 (sym looked ∙ is-three) in omega arith)
-        parts three = itself three k g less
+  pub heading-along : length head ≤ k → Headed s (length head) phase
+  heading-along l =
+      record {
+        edition = h .edition;
+        phase-is = h .phase-is;
+        start-is = ap length (h .head-is);
+        there =
+            sym (take-append-drop (length head) s)
+            ∙ ap (λ x. x ++ drop (length head) s) (ap (λ n. take n s) all ∙ g .along ∙ take-all k head l ∙ h .head-is);
+      }
+    where
+      all : length head ≡ k
+      all = omega (arith, g .upto-word)
 
-    pub stops-two : z ≡ false → Along s (header two) k → k < 47 → Stops Right s k
-    stops-two isnt g less = header-stuck two k g parts
-      where
-        parts : (d : Edition) → Parts s (header d) k
-        parts two = itself two k g less
-        parts three =
-            header-parts three two k g less (λ k l. sym (alike k l)) (omega arith) (eqb-false (getD s 9 0) 51 (sym looked ∙ isnt))
+pub heading-same : {s head : List ℕ} {phase : Bool} → Heading s head phase → (r : Bool) → SameIs s 0 head r → r ≡ true
+    → Headed s (length head) phase
+heading-same {s} {head} h r x e =
+    let from-start : 0 + length head ≡ length head = omega arith in
+    record {
+      edition = h .edition;
+      phase-is = h .phase-is;
+      start-is = ap length (h .head-is);
+      there = x .there e .there ∙ ap₂ (λ w i. w ++ drop i s) (h .head-is) from-start;
+    }
 
--- a header that was gone along with to its end
-along-all : (s w : List ℕ) (k : ℕ) → Along s w k → length w ≤ k → s ≡ w ++ drop (length w) s
-along-all s w k g l =
-    sym (take-append-drop (length w) s)
-    ∙ ap (λ x. x ++ drop (length w) s)
-    (ap (λ n. take n s) all ∙ g .along ∙ take-all k w l)
-  where
-    all : length w ≡ k
-    all = omega (arith, g .upto-word)
+module _ (s : List ℕ) (z : Bool) (looked : z ≡ eqb (getD s 9 0) 51) where
+  pub heading-three : z ≡ true → Heading s (header three) true
+  heading-three e = record { edition = three; head-is = refl; phase-is = refl; others = others }
+    where
+      others : (d : Edition) → (d ≡ three) ⊎ (getD s 9 0 ≡ getD (header d) 9 0 → ⊥)
+      others two = inr (λ f. let q : getD s 9 0 ≡ 51 = eqb-true (getD s 9 0) 51 (sym looked ∙ e) in omega arith)
+      others three = inl refl
 
-pub headed-three : (s : List ℕ) (k : ℕ) → Along s (header three) k → 50 ≤ k → Headed s 50 true
-headed-three s k g l = record { edition = three; phase-is = refl; start-is = refl; there = along-all s (header three) k g l }
-
-pub headed-two : (s : List ℕ) (k : ℕ) → Along s (header two) k → 47 ≤ k → Headed s 47 false
-headed-two s k g l = record { edition = two; phase-is = refl; start-is = refl; there = along-all s (header two) k g l }
+  pub heading-two : z ≡ false → Heading s (header two) false
+  heading-two e = record { edition = two; head-is = refl; phase-is = refl; others = others }
+    where
+      others : (d : Edition) → (d ≡ two) ⊎ (getD s 9 0 ≡ getD (header d) 9 0 → ⊥)
+      others two = inl refl
+      others three = inr (eqb-false (getD s 9 0) 51 (sym looked ∙ e))

@@ -1,6 +1,7 @@
 -- What the reader's functions promise one another: how far a text goes along, the statement at a place, the walk, and the letters put.
 -- Assumes nothing.
 use mathlib.Core.Path.{_≡_}
+use mathlib.Core.Logic.{_⊎_}
 use mathlib.Core.Bool.{Bool, true}
 use mathlib.Core.List.{List, _∷_, _++_}
 use Prim.Native.Nat.{ℕ, suc, _+_, _<_, _≤_}
@@ -71,7 +72,21 @@ pub record TailIs (s : List ℕ) (at : ℕ) (r : Bool) : Type 0 where
 pub record GateIs (b : ℕ) (r : Bool) : Type 0 where
   pub gate : r ≡ true → GateNamed b
 
+-- so many letters, or 0 where nothing is said
+pub record DaggerIs (s : List ℕ) (at r : ℕ) : Type 0 where
+  pub there : 0 < r → (phase : Bool) → Taken phase s at (at + 10) r
+
+pub record SameIs (s : List ℕ) (at : ℕ) (w : List ℕ) (r : Bool) : Type 0 where
+  pub there : r ≡ true → Whole s at w (at + length w)
+
 -- ---- the walk
+-- the header of the one edition that the text's tenth byte does not tell it from
+pub record Heading (s head : List ℕ) (phase : Bool) : Type 0 where
+  pub edition : Edition
+  pub head-is : head ≡ header edition
+  pub phase-is : phase ≡ row edition .has-phase
+  pub others : (d : Edition) → (d ≡ edition) ⊎ (getD s 9 0 ≡ getD (header d) 9 0 → ⊥)
+
 -- an edition's header, which ends at a place
 pub record Headed (s : List ℕ) (start : ℕ) (phase : Bool) : Type 0 where
   pub edition : Edition

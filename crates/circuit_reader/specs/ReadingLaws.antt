@@ -1,7 +1,7 @@
 -- The laws by which the reader's functions keep their promises: a byte more gone along, a line more walked, a statement's letters put.
 -- Assumes nothing.
 use mathlib.Core.Path.{_≡_, refl, sym, _∙_, ap, ap₂, subst}
-use mathlib.Core.Bool.{Bool, true, false, false≢true}
+use mathlib.Core.Bool.{Bool, true, false, not, _&&_, false≢true}
 use mathlib.Core.List.{List, [], _∷_, _++_, append-nil, append-assoc}
 use Prim.Native.Nat.{ℕ, suc, _+_, _-_, _<_, _≤_, _^_, min}
 use native.Mathlib.Nat.{add-zero}
@@ -16,11 +16,11 @@ use lib.Seq.{take-suc, take-all, drop-cons, drop-drop, getD-drop}
 use Rattle.exact.specs.Meaning.Text.{ascii, Stops}
 use Rattle.circuit_reader.specs.declared.Line.{Line}
 use Rattle.circuit_reader.specs.declared.Line.the-variants as Line
-use Rattle.circuit.specs.Meaning.{Edition, row, Statement, h′, s′, t′, x′, allowed, AllAllowed, header, lines, text, Right}
+use Rattle.circuit.specs.Meaning.{Edition, row, Statement, h′, s′, t′, x′, sdg, tdg, allowed, AllAllowed, header, lines, text, Right}
 use Rattle.circuit.specs.Meaning.{readAs, letters}
 use Rattle.circuit.specs.Lines.{lineOf, lines-append, allowed-append, letters-append, line-long, read-few}
 use Rattle.circuit.specs.Stuck.{IsLine, Stuck, line-stops}
-use Rattle.circuit_reader.specs.Reading.{Along, Less, Whole, StopsAt, Taken, LineIs, GateNamed, TailIs, GateIs, Headed, OfCircuit}
+use Rattle.circuit_reader.specs.Reading.{Along, Less, Whole, StopsAt, Taken, LineIs, GateNamed, TailIs, GateIs, DaggerIs, SameIs, Headed, OfCircuit}
 
 -- ---- the first k bytes go along
 pub record Going (s : List ℕ) (at : ℕ) (w : List ℕ) (end k : ℕ) : Type 0 where
@@ -159,6 +159,98 @@ gate-at phase s at z y l g p t q =
         ∙ ap (λ i. getD s at 0 ∷ drop i s) (sym (add-one at))
         ∙ ap (λ x. getD s at 0 ∷ x) (t .there q ∙ ap (λ i. ascii " q[0];\n" ++ drop i s) behind)
         ∙ ap (λ x. x ++ drop (at + 8) s) (sym (n .named))
+
+-- ---- sdg and tdg told at once
+module _ (s : List ℕ) (at : ℕ) where
+  pub dagger-none : DaggerIs s at 0
+  dagger-none = record { there = λ l. absurd (omega arith) }
+
+  module _ (l : at + 10 ≤ length s) (d : getD s (at + 1) 0 ≡ 100) (g : getD s (at + 2) 0 ≡ 103) (z : Bool) (t : TailIs s (at + 3) z)
+      (yes-tail : not z ≡ false) where
+    dagger-there : (a : Statement) (x : ℕ) → lineOf a ≡ x ∷ 100 ∷ 103 ∷ ascii " q[0];\n" → ((p : Bool) → T (allowed p a)) → getD s at 0 ≡ x
+        → DaggerIs s at (length (readAs a))
+    dagger-there a x e may f =
+        record {
+          there = λ m phase.
+              record {
+                statement = a;
+                may = may phase;
+                whole = record { is = ap (λ w. at + length w) (sym e); there = whole };
+                count = refl;
+              };
+        }
+      where
+        is-true : (y : Bool) → not y ≡ false → y ≡ true
+        is-true true q = refl
+        is-true false q = sym q
+
+        one : suc at ≡ at + 1
+        one = omega arith
+
+        two′ : suc (at + 1) ≡ at + 2
+        two′ = omega arith
+
+        three′ : suc (at + 2) ≡ at + 3
+        three′ = omega arith
+
+        ten : at + 3 + 7 ≡ at + 10
+        ten = omega arith
+
+        whole : drop at s ≡ lineOf a ++ drop (at + 10) s
+        whole =
+            drop-cons s at 0 (omega arith)
+            ∙ ap₂ (λ b i. b ∷ drop i s) f one
+            ∙ ap (λ r. x ∷ r) (drop-cons s (at + 1) 0 (omega arith) ∙ ap₂ (λ b i. b ∷ drop i s) d two′)
+            ∙ ap (λ r. x ∷ 100 ∷ r) (drop-cons s (at + 2) 0 (omega arith) ∙ ap₂ (λ b i. b ∷ drop i s) g three′)
+            ∙ ap (λ r. x ∷ 100 ∷ 103 ∷ r) (t .there (is-true z yes-tail) ∙ ap (λ i. ascii " q[0];\n" ++ drop i s) ten)
+            ∙ ap (λ r. r ++ drop (at + 10) s) (sym e)
+
+    pub dagger-s : getD s at 0 ≡ 115 → DaggerIs s at 3
+    dagger-s f = dagger-there sdg 115 refl (λ p. tt) f
+
+    pub dagger-t : getD s at 0 ≡ 116 → DaggerIs s at 4
+    dagger-t f = dagger-there tdg 116 refl (λ p. tt) f
+
+pub dagger-taken : (phase : Bool) (s : List ℕ) (at r : ℕ) → DaggerIs s at r → 0 < r → Taken phase s at (at + 10) r
+dagger-taken phase s at r h l = h .there l phase
+
+-- ---- every byte compared
+pub record Comparing (s : List ℕ) (at : ℕ) (w : List ℕ) (same : Bool) (k : ℕ) : Type 0 where
+  pub upto : k ≤ length w
+  pub along : same ≡ true → take k (drop at s) ≡ take k w
+
+pub comparing-none : (s : List ℕ) (at : ℕ) (w : List ℕ) → Comparing s at w true 0
+comparing-none s at w = record { upto = omega arith; along = λ e. refl }
+
+module _ {s : List ℕ} {at : ℕ} {w : List ℕ} {same : Bool} {k : ℕ} (h : Comparing s at w same k) (l : at + length w ≤ length s) where
+  pub comparing-more : (r : Bool) → k < length w → r ≡ same && eqb (getD s (at + k) 0) (getD w k 0) → Comparing s at w r (k + 1)
+  comparing-more r m q =
+      record { upto = omega arith; along = λ e. go same (eqb (getD s (at + k) 0) (getD w k 0)) refl refl (sym q ∙ e) }
+    where
+      go : (x y : Bool) → same ≡ x → eqb (getD s (at + k) 0) (getD w k 0) ≡ y → x && y ≡ true → take (k + 1) (drop at s) ≡ take (k + 1) w
+      go true true e f g =
+          ap (λ i. take i (drop at s)) (add-one k)
+          ∙ take-suc (drop at s) k 0 (omega (arith, length-drop at s))
+          ∙ ap₂ (λ a b. a ++ (b ∷ [])) (h .along e) (getD-drop at s k 0 ∙ eqb-true (getD s (at + k) 0) (getD w k 0) f)
+          ∙ sym (take-suc w k 0 m)
+          ∙ ap (λ i. take i w) (sym (add-one k))
+      go true false e f g = absurd (false≢true g)
+      go false y e f g = absurd (false≢true g)
+
+  pub compared : length w ≤ k → SameIs s at w same
+  compared m =
+      record {
+        there = λ e.
+            record {
+              is = refl;
+              there =
+                  sym (take-append-drop (length w) (drop at s))
+                  ∙ ap₂ (λ x y. x ++ y) (ap (λ i. take i (drop at s)) all ∙ h .along e ∙ take-all k w m) (drop-drop (length w) at s);
+            };
+      }
+    where
+      all : length w ≡ k
+      all = omega (arith, h .upto)
 
 -- ---- letters are no more than bytes
 letters-few : (c : List Statement) → length (letters c) ≤ length (lines c)

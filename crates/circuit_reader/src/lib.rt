@@ -1,10 +1,12 @@
 // The reader: one walk tells whether a text is right and counts its letters; a second puts them, from the right.
 ghost use mathlib.Core.Path.{_≡_};
+ghost use mathlib.Core.Bool.{_&&_};
 ghost use mathlib.Core.List.{[], _∷_};
 ghost use Prim.Native.Nat.{_+_, _≤_, _<_, min};
 ghost use lib.Dec.{eqb};
 ghost use lib.ListN.{length, getD, drop};
-ghost use Rattle.circuit_reader.specs.Reading.{Along, MatchIs, LineIs, TailIs, GateIs, Headed, WalkIs, OfCircuit, Before, PutsBefore};
+ghost use Rattle.circuit_reader.specs.Reading.{Along, MatchIs, LineIs, TailIs, GateIs, DaggerIs, SameIs, Heading, Headed};
+ghost use Rattle.circuit_reader.specs.Reading.{WalkIs, OfCircuit, Before, PutsBefore};
 ghost use Rattle.circuit_reader.specs.Reading.{Stands, PutsStatement, PutsLetters};
 
 pub enum Walked {
@@ -138,12 +140,33 @@ fn is_gate(b: u8) -> bool
     }
 }
 
-// The statement at a place; most are gates with a name of one letter, and are told at once.
+// How many letters sdg or tdg is read as, if one stands at a place and is told at once; else 0.
+fn dagger_at(text: &[u8], at: usize) -> usize
+    requires { ⌜ at + 10 ≤ length (now text) ⌝ }
+    ensures { λ r. ⌜ DaggerIs (now (text .entry)) at r ⌝ }
+{
+    if text[at + 1] != b'd' {
+        return 0;
+    }
+    if text[at + 2] != b'g' {
+        return 0;
+    }
+    if !tail_at(text, at + 3) {
+        return 0;
+    }
+    if text[at] == b's' {
+        return 3;
+    }
+    if text[at] == b't' { 4 } else { 0 }
+}
+
+// The statement at a place; gates are told at once.
 fn line_at(text: &[u8], at: usize, phase: bool) -> Line
     requires { ⌜ at < length (now text) ⌝ }
     ensures { λ r. ⌜ LineIs phase (now (text .entry)) at r ⌝ }
 {
-    if text.len() - at >= 8 {
+    let left = text.len() - at;
+    if left >= 8 {
         if is_gate(text[at]) {
             if tail_at(text, at + 1) {
                 return Line::Is {
@@ -151,6 +174,15 @@ fn line_at(text: &[u8], at: usize, phase: bool) -> Line
                     letters: 1,
                 };
             }
+        }
+    }
+    if left >= 10 {
+        let n = dagger_at(text, at);
+        if n > 0 {
+            return Line::Is {
+                next: at + 10,
+                letters: n,
+            };
         }
     }
     other_at(text, at, phase)
@@ -176,30 +208,60 @@ fn lines_from(text: &[u8], start: usize, phase: bool) -> Walked
     Walked::Circuit { start, letters }
 }
 
+fn both(a: bool, b: bool) -> bool
+    ensures { λ r. ⌜ r ≡ a && b ⌝ }
+{
+    if a { b } else { false }
+}
+
+// Whether a word stands at a place: every byte is compared, so that many go at once.
+fn same_at(text: &[u8], at: usize, word: &[u8]) -> bool
+    requires { ⌜ at + length (now word) ≤ length (now text) ⌝ }
+    ensures { λ r. ⌜ SameIs (now (text .entry)) at (now (word .entry)) r ⌝ }
+{
+    let mut same = true;
+    let mut k: usize = 0;
+    while k < word.len() {
+        same = both(same, text[at + k] == word[k]);
+        k += 1;
+    }
+    same
+}
+
+// The text held to the one header that it can begin with.
+fn walk_by(text: &[u8], head: &[u8], phase: bool) -> Walked
+    requires { ⌜ Heading (now text) (now head) phase ⌝ }
+    ensures { λ r. ⌜ WalkIs (now (text .entry)) r ⌝ }
+{
+    let n = head.len();
+    if n <= text.len() {
+        if same_at(text, 0, head) {
+            return lines_from(text, n, phase);
+        }
+    }
+    let k = along(text, 0, head);
+    if k < n {
+        return Walked::Stopped(k);
+    }
+    lines_from(text, n, phase)
+}
+
 // The header's tenth byte tells the edition that it can only be.
 pub fn walk(text: &[u8]) -> Walked
     ensures { λ r. ⌜ WalkIs (now (text .entry)) r ⌝ }
 {
     if stands(text, 9, b'3') {
-        let k = along(
+        return walk_by(
             text,
-            0,
             b"OPENQASM 3.0;\ninclude \"stdgates.inc\";\nqubit[1] q;\n",
+            true,
         );
-        if k < 50 {
-            return Walked::Stopped(k);
-        }
-        return lines_from(text, 50, true);
     }
-    let k = along(
+    walk_by(
         text,
-        0,
         b"OPENQASM 2.0;\ninclude \"qelib1.inc\";\nqreg q[1];\n",
-    );
-    if k < 47 {
-        return Walked::Stopped(k);
-    }
-    lines_from(text, 47, false)
+        false,
+    )
 }
 
 struct Step {
