@@ -12,7 +12,7 @@ use mir.Facts.{or-yes}
 use Rattle.exact.specs.Meaning.Word.{Letter, byte, bytes}
 use Rattle.exact.specs.Outcomes.Ladder.{Only}
 use Rattle.circuit.specs.Meaning.{Edition, two, three, Statement, h′, s′, t′, x′, sdg, tdg, gphase}
-use Rattle.circuit.specs.Meaning.{spelling, AllAllowed, line, header, lines, TextOf, readAs, letters, Reads}
+use Rattle.circuit.specs.Meaning.{Right, spelling, AllAllowed, line, header, lines, TextOf, readAs, letters, Reads}
 
 -- the line of a statement
 abbrev pub lineOf : Statement → List ℕ
@@ -197,3 +197,10 @@ one-reading s v w x y = x .is ∙ ap letters same ∙ sym (y .is)
 pub bytes-append : (u v : List Letter) → bytes (u ++ v) ≡ bytes u ++ bytes v
 bytes-append [] v = refl
 bytes-append (l ∷ u) v = ap (λ x. byte l ∷ x) (bytes-append u v)
+
+-- ---- as a walk finds it
+-- a circuit's text: where its statements start, and how many letters they are read as
+pub record OfCircuit (s : List ℕ) (start n : ℕ) : Type 0 where
+  pub right : Right s
+  pub start-is : start ≡ length (header (right .edition))
+  pub count : n ≡ length (letters (right .circuit))

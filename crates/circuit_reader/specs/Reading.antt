@@ -1,23 +1,18 @@
--- What the reader's functions promise one another: how far a text goes along, the statement at a place, the walk, and the letters put.
--- Assumes nothing.
+-- What the reader's functions promise one another: how far a text goes along, the statement at a place, the walk. Assumes nothing.
 use mathlib.Core.Path.{_≡_}
 use mathlib.Core.Logic.{_⊎_}
 use mathlib.Core.Bool.{Bool, true}
 use mathlib.Core.List.{List, _∷_, _++_}
-use Prim.Native.Nat.{ℕ, suc, _+_, _<_, _≤_}
+use Prim.Native.Nat.{ℕ, _+_, _<_, _≤_}
 use lib.Dec.{T}
-use lib.ListN.{length, take, drop, set, getD}
-use lib.Seq.{sets}
-use Rattle.exact.specs.Meaning.Word.{Letter, bytes}
-use Rattle.exact.specs.Meaning.Lent.{over}
+use lib.ListN.{length, take, drop, getD}
 use Rattle.exact.specs.Meaning.Text.{ascii, Stops}
 use Rattle.circuit_reader.specs.declared.Walked.{Walked}
 use Rattle.circuit_reader.specs.declared.Walked.the-variants as Walked
 use Rattle.circuit_reader.specs.declared.Line.{Line}
 use Rattle.circuit_reader.specs.declared.Line.the-variants as Line
-use Rattle.circuit_reader.specs.declared.Step.{Step}
-use Rattle.circuit.specs.Meaning.{Edition, row, Statement, allowed, header, Right, readAs, letters, Reads}
-use Rattle.circuit.specs.Lines.{lineOf}
+use Rattle.circuit.specs.Meaning.{Edition, row, Statement, allowed, header, Right, readAs}
+use Rattle.circuit.specs.Lines.{lineOf, OfCircuit}
 use Rattle.circuit.specs.Stuck.{IsLine, Stuck}
 
 -- r goes along with w for k bytes, and no more
@@ -94,40 +89,6 @@ pub record Headed (s : List ℕ) (start : ℕ) (phase : Bool) : Type 0 where
   pub start-is : start ≡ length (header edition)
   pub there : s ≡ header edition ++ drop start s
 
--- a circuit's text: where its statements start, and how many letters they are read as
-pub record OfCircuit (s : List ℕ) (start n : ℕ) : Type 0 where
-  pub right : Right s
-  pub start-is : start ≡ length (header (right .edition))
-  pub count : n ≡ length (letters (right .circuit))
-
 abbrev pub WalkIs : List ℕ → Walked → Type 0
 WalkIs s (Walked.Stopped p) = Stops Right s p
 WalkIs s (Walked.Circuit start n) = OfCircuit s start n
-
--- ---- letters put, from the right
--- a byte, and a text, before the place `left`; r is then their own
-pub record Before (old : List ℕ) (left b : ℕ) (new : List ℕ) (r : ℕ) : Type 0 where
-  pub left-is : left ≡ suc r
-  pub is : new ≡ set old r b
-
-pub record PutsBefore (old : List ℕ) (left : ℕ) (t new : List ℕ) (r : ℕ) : Type 0 where
-  pub left-is : left ≡ r + length t
-  pub is : new ≡ sets old r t
-
--- at a place stands a statement, whose letters have room before `left`
-pub record Stands (s : List ℕ) (at left room : ℕ) : Type 0 where
-  pub statement : Statement
-  pub rest : List ℕ
-  pub there : drop at s ≡ lineOf statement ++ rest
-  pub enough : length (readAs statement) ≤ left
-  pub within : left ≤ room
-
-pub record Stepped (a : Statement) (at left : ℕ) (old : List ℕ) (r : Step) (new : List ℕ) : Type 0 where
-  pub next : r .at ≡ at + length (lineOf a)
-  pub put : PutsBefore old left (bytes (readAs a)) new (r .left)
-
-pub record PutsStatement (s : List ℕ) (at left : ℕ) (old : List ℕ) (r : Step) (new : List ℕ) : Type 0 where
-  pub puts : (a : Statement) (rest : List ℕ) → drop at s ≡ lineOf a ++ rest → Stepped a at left old r new
-
-pub record PutsLetters (s old new : List ℕ) : Type 0 where
-  pub puts : (v : List Letter) → Reads s v → new ≡ over (bytes v) old

@@ -1,4 +1,4 @@
--- The laws by which the reader's functions keep their promises: a byte more gone along, a line more walked, a statement's letters put.
+-- The laws by which the reader's functions keep their promises: a byte more gone along, a line more walked.
 -- Assumes nothing.
 use mathlib.Core.Path.{_≡_, refl, sym, _∙_, ap, ap₂, subst}
 use mathlib.Core.Bool.{Bool, true, false, not, _&&_, false≢true}
@@ -18,9 +18,9 @@ use Rattle.circuit_reader.specs.declared.Line.{Line}
 use Rattle.circuit_reader.specs.declared.Line.the-variants as Line
 use Rattle.circuit.specs.Meaning.{Edition, row, Statement, h′, s′, t′, x′, sdg, tdg, allowed, AllAllowed, header, lines, text, Right}
 use Rattle.circuit.specs.Meaning.{readAs, letters}
-use Rattle.circuit.specs.Lines.{lineOf, lines-append, allowed-append, letters-append, line-long, read-few}
+use Rattle.circuit.specs.Lines.{lineOf, lines-append, allowed-append, letters-append, line-long, read-few, OfCircuit}
 use Rattle.circuit.specs.Stuck.{IsLine, Stuck, line-stops}
-use Rattle.circuit_reader.specs.Reading.{Along, Less, Whole, StopsAt, Taken, LineIs, GateNamed, TailIs, GateIs, DaggerIs, SameIs, Headed, OfCircuit}
+use Rattle.circuit_reader.specs.Reading.{Along, Less, Whole, StopsAt, Taken, LineIs, GateNamed, TailIs, GateIs, DaggerIs, SameIs, Headed}
 
 -- ---- the first k bytes go along
 pub record Going (s : List ℕ) (at : ℕ) (w : List ℕ) (end k : ℕ) : Type 0 where

@@ -17,8 +17,9 @@ use Rattle.circuit_reader.specs.declared.Walked.the-variants as Walked
 use Rattle.circuit.specs.Meaning.{Right, letters}
 use Rattle.qasm.specs.Outcome.{refused, accepted, ReadOutcome}
 use Rattle.circuit.specs.Meaning.{Reads}
-use Rattle.circuit.specs.Lines.{one-reading}
-use Rattle.circuit_reader.specs.Reading.{OfCircuit, WalkIs, PutsLetters}
+use Rattle.circuit.specs.Lines.{one-reading, OfCircuit}
+use Rattle.circuit_reader.specs.Reading.{WalkIs}
+use Rattle.circuit_letters.specs.Letters.{PutsLetters}
 use Rattle.qasm.specs.WriterWays.{stays}
 
 -- ---- not a right text

@@ -7,7 +7,7 @@ ghost use lib.ListN.{length};
 ghost use Rattle.qasm.specs.Outcome.{refused, editionOf, WriteOutcome, ReadOutcome};
 ghost use Rattle.circuit_writer.specs.Writing.{Measures, PhaseIs};
 ghost use Rattle.qasm.specs.WriterWays.{PutsCircuit};
-ghost use Rattle.circuit_reader.specs.Reading.{OfCircuit};
+ghost use Rattle.circuit.specs.Lines.{OfCircuit};
 
 // What is handed back: the refusal or 0, its place, and the bytes written.
 pub struct Written {
@@ -99,7 +99,7 @@ fn read_circuit(text: &[u8], start: usize, letters: usize, buf: &mut [u8]) -> Wr
     if letters > buf.len() {
         return refused(exact::ROOM, 0);
     }
-    circuit_reader::put_letters(text, start, letters, buf);
+    circuit_letters::put_letters(text, start, letters, buf);
     Written {
         refusal: exact::ACCEPTED,
         place: 0,

@@ -1,4 +1,4 @@
--- `reader::along` meets its contract. Assumes nothing.
+-- `along` meets its contract. Assumes nothing.
 use Prim.Native.Nat.{_-_}
 use native.Mathlib.Omega.{arith}
 use borrow.Author.Needs.{needs}

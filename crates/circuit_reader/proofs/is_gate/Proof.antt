@@ -1,4 +1,4 @@
--- `reader::is_gate` meets its contract. Assumes nothing.
+-- `is_gate` meets its contract. Assumes nothing.
 use Rattle.circuit_reader.specs.ReadingLaws.{gate-h, gate-s, gate-t, gate-x, gate-none}
 use Rattle.circuit_reader.proofs.is_gate.Statement.{statement}
 use Rattle.circuit_reader.proofs.is_gate.Tie as tie

@@ -1,4 +1,4 @@
--- `reader::lines_from` meets its contract. Assumes nothing.
+-- `lines_from` meets its contract. Assumes nothing.
 use Prim.Native.Nat.{_-_}
 use borrow.Author.Needs.{needs}
 use lib.ListN.{length}

@@ -1,4 +1,4 @@
--- `reader::matched` meets its contract. Assumes nothing.
+-- `matched` meets its contract. Assumes nothing.
 use mathlib.Core.Path.{refl}
 use borrow.Author.Needs.{needs}
 use Rattle.circuit_reader.specs.ReadingLaws.{matched-less, matched-whole, matched-fits}

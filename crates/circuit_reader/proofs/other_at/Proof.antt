@@ -1,4 +1,4 @@
--- `reader::other_at` meets its contract, a law for each statement that the first two bytes tell. Assumes nothing.
+-- `other_at` meets its contract, a law for each statement that the first two bytes tell. Assumes nothing.
 use borrow.Author.Needs.{needs}
 use Rattle.circuit_reader.specs.Chosen.{line-h, line-x, line-s, line-t, line-sdg, line-tdg, line-phase, line-none, line-no-phase}
 use Rattle.circuit_reader.proofs.other_at.Statement.{statement}

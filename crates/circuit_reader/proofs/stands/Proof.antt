@@ -1,4 +1,4 @@
--- `reader::stands` meets its contract. Assumes nothing.
+-- `stands` meets its contract. Assumes nothing.
 use borrow.Author.Needs.{needs}
 use Rattle.circuit_reader.specs.ReadingLaws.{beyond-end}
 use Rattle.circuit_reader.proofs.stands.Statement.{statement}

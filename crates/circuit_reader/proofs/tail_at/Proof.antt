@@ -1,4 +1,4 @@
--- `reader::tail_at` meets its contract. Assumes nothing.
+-- `tail_at` meets its contract. Assumes nothing.
 use borrow.Author.Needs.{needs}
 use Rattle.circuit_reader.specs.ReadingLaws.{tail-none, tail-there}
 use Rattle.circuit_reader.proofs.tail_at.Statement.{statement}

@@ -1,4 +1,4 @@
--- `writer::line_size` meets its contract. Assumes nothing.
+-- `line_size` meets its contract. Assumes nothing.
 use Rattle.circuit_writer.specs.WritingLaws.{size-H, size-S, size-T, size-X, size-W, size-I, size-none}
 use Rattle.circuit_writer.proofs.line_size.Statement.{statement}
 use Rattle.circuit_writer.proofs.line_size.Tie as tie

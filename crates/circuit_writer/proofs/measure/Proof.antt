@@ -1,4 +1,4 @@
--- `writer::measure` meets its contract. Assumes nothing.
+-- `measure` meets its contract. Assumes nothing.
 use Prim.Native.Nat.{_-_}
 use native.Mathlib.Omega.{arith}
 use borrow.Author.Needs.{needs}

@@ -1,4 +1,4 @@
--- `writer::past` meets its contract. Assumes nothing.
+-- `past` meets its contract. Assumes nothing.
 use borrow.Author.Needs.{needs}
 use Rattle.circuit_writer.specs.WritingLaws.{past-there, past-here, past-behind}
 use Rattle.circuit_writer.proofs.past.Statement.{statement}

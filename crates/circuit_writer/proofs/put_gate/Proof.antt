@@ -1,4 +1,4 @@
--- `writer::put_gate` meets its contract. Assumes nothing.
+-- `put_gate` meets its contract. Assumes nothing.
 use native.Mathlib.Omega.{arith}
 use borrow.Author.Needs.{needs}
 use lib.ListN.{length-set}

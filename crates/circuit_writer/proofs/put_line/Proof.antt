@@ -1,4 +1,4 @@
--- `writer::put_line` meets its contract, a law for each kind of letter. Assumes nothing.
+-- `put_line` meets its contract, a law for each kind of letter. Assumes nothing.
 use borrow.Author.Needs.{needs}
 use Rattle.circuit_writer.specs.WritingLaws.{line-I, room-W, line-W, gate-fits, room-gate, line-gate}
 use Rattle.circuit_writer.proofs.put_line.Statement.{statement}

@@ -1,4 +1,4 @@
--- `writer::put_lines` meets its contract. Assumes nothing.
+-- `put_lines` meets its contract. Assumes nothing.
 use Prim.Native.Nat.{_-_}
 use native.Mathlib.Omega.{arith}
 use borrow.Author.Needs.{needs}

@@ -1,10 +1,10 @@
--- `reader::put_letters` meets its contract. Assumes nothing.
+-- `put_letters` meets its contract. Assumes nothing.
 use Prim.Native.Nat.{_-_}
 use borrow.Author.Needs.{needs}
 use lib.ListN.{length}
-use Rattle.circuit_reader.specs.LettersLaws.{Putting, putting-none, putting-stands, putting-less, putting-more, putting-length, putting-all}
-use Rattle.circuit_reader.proofs.put_letters.Statement.{statement}
-use Rattle.circuit_reader.proofs.put_letters.Tie as tie
+use Rattle.circuit_letters.specs.LettersLaws.{Putting, putting-none, putting-stands, putting-less, putting-more, putting-length, putting-all}
+use Rattle.circuit_letters.proofs.put_letters.Statement.{statement}
+use Rattle.circuit_letters.proofs.put_letters.Tie as tie
 
 abbrev Inv-loop : tie.InvT-loop
 Inv-loop text start letters buf₀ at₀ left₀ buf at left = Putting text letters buf₀ buf at left

@@ -13,10 +13,10 @@ use lib.Seq.{sets, length-sets, sets-eq, set-comm, drop-drop, drop-append-seam, 
 use Rattle.exact.specs.Meaning.Word.{Letter, bytes}
 use Rattle.exact.specs.Meaning.Lent.{over}
 use Rattle.exact.specs.Cases.Letters.{bytes-length}
-use Rattle.circuit_reader.specs.declared.Step.{Step}
+use Rattle.circuit_letters.specs.declared.Step.{Step}
 use Rattle.circuit.specs.Meaning.{Statement, header, lines, readAs, letters, Reads}
-use Rattle.circuit.specs.Lines.{lineOf, Each, each, line-long, read-some, one-reading, bytes-append}
-use Rattle.circuit_reader.specs.Reading.{OfCircuit, Before, PutsBefore, Stands, Stepped, PutsStatement, PutsLetters}
+use Rattle.circuit.specs.Lines.{lineOf, Each, each, line-long, read-some, one-reading, bytes-append, OfCircuit}
+use Rattle.circuit_letters.specs.Letters.{Before, PutsBefore, Stands, Stepped, PutsStatement, PutsLetters}
 
 -- ---- a byte before the others
 set-sets : (l : List ℕ) (j b i : ℕ) (t : List ℕ) → j < i → set (sets l i t) j b ≡ sets (set l j b) i t

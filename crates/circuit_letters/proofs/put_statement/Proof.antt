@@ -1,10 +1,10 @@
--- `reader::put_statement` meets its contract, a law for each kind of statement. Assumes nothing.
+-- `put_statement` meets its contract, a law for each kind of statement. Assumes nothing.
 use native.Mathlib.Omega.{arith}
 use borrow.Author.Needs.{needs}
-use Rattle.circuit_reader.specs.LettersLaws.{stands-within, stands-room, stands-one, stands-low, stands-three, stands-gate, stands-dagger, stands-phase}
-use Rattle.circuit_reader.specs.LettersLaws.{esses-one, esses-room, puts-gate, puts-phase, puts-sdg, puts-tdg}
-use Rattle.circuit_reader.proofs.put_statement.Statement.{statement}
-use Rattle.circuit_reader.proofs.put_statement.Tie as tie
+use Rattle.circuit_letters.specs.LettersLaws.{stands-within, stands-room, stands-one, stands-low, stands-three, stands-gate, stands-dagger, stands-phase}
+use Rattle.circuit_letters.specs.LettersLaws.{esses-one, esses-room, puts-gate, puts-phase, puts-sdg, puts-tdg}
+use Rattle.circuit_letters.proofs.put_statement.Statement.{statement}
+use Rattle.circuit_letters.proofs.put_statement.Tie as tie
 
 shared-slice-read-b : tie.Need-shared-slice-read-b
 shared-slice-read-b c = omega (arith, stands-within _ _ _ _ (c .before .before .before .pre))

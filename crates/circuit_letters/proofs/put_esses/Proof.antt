@@ -1,8 +1,8 @@
--- `reader::put_esses` meets its contract. Assumes nothing.
+-- `put_esses` meets its contract. Assumes nothing.
 use borrow.Author.Needs.{needs}
-use Rattle.circuit_reader.specs.LettersLaws.{three-esses}
-use Rattle.circuit_reader.proofs.put_esses.Statement.{statement}
-use Rattle.circuit_reader.proofs.put_esses.Tie as tie
+use Rattle.circuit_letters.specs.LettersLaws.{three-esses}
+use Rattle.circuit_letters.proofs.put_esses.Statement.{statement}
+use Rattle.circuit_letters.proofs.put_esses.Tie as tie
 
 put-before-requires : tie.Need-put-before-requires
 put-before-requires c κs = search needs
