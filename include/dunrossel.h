@@ -14,8 +14,8 @@
  * pointer leads to as many elements as its declaration or its length says, and no memory that is written (out, place, buf)
  * overlaps another argument's.
  *
- * The result is 0 or the number of a refusal; of several that hold, the first in the function's own list. No call keeps memory, a pointer
- * or a state; calls may run side by side. A later number comes through a new function: no out array grows. */
+ * The result is 0 or the number of a refusal; of several that hold, the first in the function's own list. No call keeps
+ * memory, a pointer or a state; calls may run side by side. A later number comes through a new function: no out array grows. */
 #ifndef DUNROSSEL_H
 #define DUNROSSEL_H
 
@@ -92,7 +92,7 @@ size_t dunrossel_bench(const uint8_t *record, size_t len, uint8_t out[512]);
  *     qreg q[1];                 qubit[1] q;
  *
  * then a line for each statement: h q[0]; s q[0]; t q[0]; x q[0]; sdg q[0]; tdg q[0]; and in 3.0 gphase(pi/4); for W.
- * A circuit's first statement acts first, so it is the word's rightmost letter.
+ * A circuit's first statement acts first, so it is the word's rightmost letter; these three lines alone are the empty word.
  *
  * Writes the circuit of the word's letters I H S X W T into buf, by h, s, t, x and gphase; I is left out. DUNROSSEL_CIRCUIT
  * bytes always do. out: place of a refusal 2 or 10 (else 0), bytes written.
@@ -100,9 +100,10 @@ size_t dunrossel_bench(const uint8_t *record, size_t len, uint8_t out[512]);
 uint8_t dunrossel_qasm2_write(const uint8_t *word, size_t len, uint8_t *buf, size_t room, uint64_t out[2]);
 uint8_t dunrossel_qasm3_write(const uint8_t *word, size_t len, uint8_t *buf, size_t room, uint64_t out[2]);
 
-/* Writes the letters of a circuit of either edition, of any length, into buf: sdg is read as SSS, tdg as TSSS. They have the
- * circuit's own matrix, phase included, and of what was written they are the letters but for I. DUNROSSEL_LETTERS bytes
- * always do. out: place of a refusal 9 (else 0), bytes written.
+/* Writes the letters of a circuit of either edition into buf, all of them H S X W T, as dunrossel_normalise takes them: sdg
+ * is read as SSS, tdg as TSSS. They have the circuit's own matrix, phase included, and of what was written they are the
+ * letters but for I. The text may have any length; DUNROSSEL_LETTERS bytes of room always do. out: place of a refusal 9
+ * (else 0), bytes written.
  * Refuses 9, 1 (by the letters read), 7. */
 uint8_t dunrossel_qasm_read(const uint8_t *text, size_t len, uint8_t *buf, size_t room, uint64_t out[2]);
 

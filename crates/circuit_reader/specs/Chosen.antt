@@ -43,10 +43,13 @@ module _ (s : List ℕ) (at : ℕ) (l : at < length s) where
   module _ (phase : Bool) (a : Statement) (may : T (allowed phase a)) (h : Chosen s at a) (k : ℕ) (g : Along (drop at s) (lineOf a) k)
       (less : k < length (lineOf a)) where
     beyond : (x : Bool) → ltb k 1 ≡ x → 1 ≤ k
-    beyond true e = absurd (g .differ less (omega (arith, there, none)) (ap (λ i. getD (drop at s) i 0) none ∙ first-is ∙ h .first ∙ ap (λ i. getD (lineOf a) i 0) (sym none)))
+    beyond true e = absurd (g .differ less (omega (arith, there, none)) same)
       where
         none : k ≡ 0
         none = omega (arith, ltb-true k 1 e)
+
+        same : getD (drop at s) k 0 ≡ getD (lineOf a) k 0
+        same = ap (λ i. getD (drop at s) i 0) none ∙ first-is ∙ h .first ∙ ap (λ i. getD (lineOf a) i 0) (sym none)
     beyond false e = ltb-false k 1 e
 
     chosen-parts : (b : Statement) → Parts (drop at s) (lineOf b) k

@@ -23,6 +23,15 @@ use Rattle.circuit.specs.Stuck.{IsLine, Stuck, line-stops}
 use Rattle.circuit_reader.specs.Reading.{Along, Less, Whole, StopsAt, Taken, LineIs, GateNamed, TailIs, GateIs, DaggerIs, SameIs, Headed}
 
 -- ---- the first k bytes go along
+one-further : (s : List ℕ) (at : ℕ) (w : List ℕ) (k : ℕ) → take k (drop at s) ≡ take k w → at + k < length s → k < length w
+    → getD s (at + k) 0 ≡ getD w k 0 → take (k + 1) (drop at s) ≡ take (k + 1) w
+one-further s at w k h l m e =
+    ap (λ i. take i (drop at s)) (add-one k)
+    ∙ take-suc (drop at s) k 0 (omega (arith, length-drop at s))
+    ∙ ap₂ (λ x y. x ++ (y ∷ [])) h (getD-drop at s k 0 ∙ e)
+    ∙ sym (take-suc w k 0 m)
+    ∙ ap (λ i. take i w) (sym (add-one k))
+
 pub record Going (s : List ℕ) (at : ℕ) (w : List ℕ) (end k : ℕ) : Type 0 where
   pub within : at ≤ length s
   pub end-is : end ≡ min (length s - at) (length w)
@@ -66,12 +75,7 @@ module _ {s : List ℕ} {at : ℕ} {w : List ℕ} {end k : ℕ} (h : Going s at 
         within = h .within;
         end-is = h .end-is;
         upto = omega arith;
-        along =
-            ap (λ i. take i (drop at s)) (add-one k)
-            ∙ take-suc (drop at s) k 0 (omega (arith, going-read l, length-drop at s))
-            ∙ ap₂ (λ x y. x ++ (y ∷ [])) (h .along) (getD-drop at s k 0 ∙ e)
-            ∙ sym (take-suc w k 0 (going-word l))
-            ∙ ap (λ i. take i w) (sym (add-one k));
+        along = one-further s at w k (h .along) (going-read l) (going-word l) e;
       }
 
 -- ---- a byte that is not there
@@ -228,12 +232,7 @@ module _ {s : List ℕ} {at : ℕ} {w : List ℕ} {same : Bool} {k : ℕ} (h : C
       record { upto = omega arith; along = λ e. go same (eqb (getD s (at + k) 0) (getD w k 0)) refl refl (sym q ∙ e) }
     where
       go : (x y : Bool) → same ≡ x → eqb (getD s (at + k) 0) (getD w k 0) ≡ y → x && y ≡ true → take (k + 1) (drop at s) ≡ take (k + 1) w
-      go true true e f g =
-          ap (λ i. take i (drop at s)) (add-one k)
-          ∙ take-suc (drop at s) k 0 (omega (arith, length-drop at s))
-          ∙ ap₂ (λ a b. a ++ (b ∷ [])) (h .along e) (getD-drop at s k 0 ∙ eqb-true (getD s (at + k) 0) (getD w k 0) f)
-          ∙ sym (take-suc w k 0 m)
-          ∙ ap (λ i. take i w) (sym (add-one k))
+      go true true e f g = one-further s at w k (h .along e) (omega arith) m (eqb-true (getD s (at + k) 0) (getD w k 0) f)
       go true false e f g = absurd (false≢true g)
       go false y e f g = absurd (false≢true g)
 

@@ -32,7 +32,8 @@ loop-less c = omega arith
 
 loop-again : tie.Need-loop-again Inv-loop μ-loop
 loop-again c =
-    let l = c .before .before .before .before .before .before .loop in
+    let after = c .before .before .before in
+    let l = after .before .before .before .loop in
     lining-more (l .inv) (l .i - 1) (omega arith) _ _ (search needs)
 
 same-length : tie.Need-same-length Inv-loop μ-loop
