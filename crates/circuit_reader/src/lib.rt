@@ -249,15 +249,9 @@ pub fn walk(text: &[u8]) -> Walked
     ensures { λ r. ⌜ WalkIs (now (text .entry)) r ⌝ }
 {
     if stands(text, 9, b'3') {
-        return walk_by(
-            text,
-            b"OPENQASM 3.0;\ninclude \"stdgates.inc\";\nqubit[1] q;\n",
-            true,
-        );
+        let head = circuit::HEADER_3;
+        return walk_by(text, &head, true);
     }
-    walk_by(
-        text,
-        b"OPENQASM 2.0;\ninclude \"qelib1.inc\";\nqreg q[1];\n",
-        false,
-    )
+    let head = circuit::HEADER_2;
+    walk_by(text, &head, false)
 }

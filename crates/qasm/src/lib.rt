@@ -59,19 +59,13 @@ fn write_word(edition: Edition, lines: usize, phase: usize, word: &[u8], buf: &m
             if phase < word.len() {
                 return refused(exact::PHASE, phase);
             }
-            put_circuit(
-                b"OPENQASM 2.0;\ninclude \"qelib1.inc\";\nqreg q[1];\n",
-                lines,
-                word,
-                buf,
-            )
+            let head = circuit::HEADER_2;
+            put_circuit(&head, lines, word, buf)
         }
-        Edition::Three => put_circuit(
-            b"OPENQASM 3.0;\ninclude \"stdgates.inc\";\nqubit[1] q;\n",
-            lines,
-            word,
-            buf,
-        ),
+        Edition::Three => {
+            let head = circuit::HEADER_3;
+            put_circuit(&head, lines, word, buf)
+        }
     }
 }
 
