@@ -39,6 +39,7 @@ spelling sdg = "sdg q[0];"
 spelling tdg = "tdg q[0];"
 spelling gphase = "gphase(pi/4);"
 
+-- p: whether there is a phase
 abbrev pub allowed : Bool → Statement → Bool
 allowed p h′ = true
 allowed p s′ = true

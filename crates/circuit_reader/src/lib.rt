@@ -52,6 +52,7 @@ fn stands(text: &[u8], at: usize, b: u8) -> bool
     text[at] == b
 }
 
+// The line of the one statement that can stand at a place, or where the text leaves it.
 fn matched(text: &[u8], at: usize, line: &[u8], letters: usize) -> Line
     requires { ⌜ at ≤ length (now text) ⌝ }
     ensures { λ r. ⌜ MatchIs (now (text .entry)) at (now (line .entry)) letters r ⌝ }
@@ -237,6 +238,7 @@ fn walk_by(text: &[u8], head: &[u8], phase: bool) -> Walked
             return lines_from(text, n, phase);
         }
     }
+    // a comparison of every byte does not tell the place
     let k = along(text, 0, head);
     if k < n {
         return Walked::Stopped(k);
