@@ -2,18 +2,15 @@
 use mathlib.Core.Path.{_≡_, _∙_, ap, subst}
 use mathlib.Core.List.{List}
 use Prim.Native.Nat.{ℕ, _<_, _^_}
-use native.Mathlib.Omega.{arith}
 use lib.Ieee.{Float}
-use lib.IntN.{ℤ, pos}
-use lib.ListN.{getD}
+use lib.IntN.{ℤ}
 use lib.Signed.{mag}
-use mir.Syntax.{w8, w32, w64}
-use mir.Val.{Fits, SFits, toZ}
-use mir.Facts.{toZ-pos, toZ-ofZ}
+use mir.Syntax.{w32, w64}
+use mir.Val.{SFits}
+use mir.Facts.{toZ-ofZ}
 use Rattle.exact.specs.Meaning.Word.{Letter}
 use Rattle.exact.specs.Meaning.Lent.{lent}
 use Rattle.exact.specs.Whole.Machine.{held}
-use Rattle.exact.specs.Whole.Size.{sfits-abs}
 use Rattle.ring.specs.declared.ZOmega.{ZOmega}
 use Rattle.unitary.specs.declared.Checked.{Checked}
 use Rattle.unitary.specs.declared.FromGates.{FromGates}
@@ -30,37 +27,11 @@ use Rattle.qasm.specs.Outcome.{WriteOutcome, ReadOutcome}
 use Rattle.qasm.specs.declared.Written.{Written as Converted}
 use Rattle.view.specs.declared.Answer.{Answer}
 use Rattle.view.specs.Meaning.Outcome.{ViewOutcome}
-use Rattle.dunrossel.specs.declared.Four.{Four}
-use Rattle.dunrossel.specs.Exports.{zOf, wOf, ten, Reduces, Multiplies, eightOf, Views, counts, Writes, countsOf, Synthesises, countsIn, Converts}
-use Rattle.dunrossel.specs.Exports.{argument, fourOf, fiveOf, Multiplied, Inverted, Parted}
-
--- ---- a byte as a signed number
-pub record Wide (x : ℕ) (r : ℤ) : Type 0 where
-  pub is : r ≡ pos x
-  pub small : x < 256
-
-pub wide-is : (x : ℕ) → Fits w8 x → Wide x (toZ w64 x)
-wide-is x f = record { is = toZ-pos w64 (omega (arith, f .fits)); small = omega (arith, f .fits) }
-
-pub narrow-is : (x : ℕ) → Fits w8 x → Wide x (toZ w32 x)
-narrow-is x f = record { is = toZ-pos w32 (omega (arith, f .fits)); small = omega (arith, f .fits) }
-
--- as it is read back
-pub wide-held : {x : ℕ} {r : ℤ} → Wide x r → held w64 r ≡ pos x
-wide-held {x} {r} h = rw (h .is) (toZ-ofZ {w = w64} {z = pos x} (sfits-abs (omega (arith, h .small))))
-
-pub narrow-held : {x : ℕ} {r : ℤ} → Wide x r → held w32 r ≡ pos x
-narrow-held {x} {r} h = rw (h .is) (toZ-ofZ {w = w32} {z = pos x} (sfits-abs (omega (arith, h .small))))
-
-pub held-is : (x : ℤ) → mag x < 2 ^ 63 → held w64 x ≡ x
-held-is x f = toZ-ofZ {w = w64} {z = x} (record { sfits = f })
-
-pub four-held : {x : ZOmega} → mag (x .a) < 2 ^ 63 → mag (x .b) < 2 ^ 63 → mag (x .c) < 2 ^ 63 → mag (x .d) < 2 ^ 63
-    → _≡_ {A = ZOmega} (record { a = held w64 (x .a); b = held w64 (x .b); c = held w64 (x .c); d = held w64 (x .d) }) x
-four-held {x} a b c d = λ i. record { a = held-is (x .a) a i; b = held-is (x .b) b i; c = held-is (x .c) c i; d = held-is (x .d) d i }
-
-held-small : (x : ℤ) → mag x < 2 ^ 31 → held w32 x ≡ x
-held-small x f = toZ-ofZ {w = w32} {z = x} (record { sfits = f })
+use Rattle.handed.specs.declared.Four.{Four}
+use Rattle.dunrossel.specs.Exports.{Reduces, Multiplies, Views, Writes, Synthesises, Converts}
+use Rattle.dunrossel.specs.Exports.{argument, Multiplied, Inverted, Parted}
+use Rattle.handed.specs.Arrays.{zOf, wOf, ten, eightOf, counts, countsOf, countsIn, fourOf, fiveOf, listed}
+use Rattle.handed.specs.Numbers.{held-small}
 
 -- ---- triples: what was said of the numbers read back is said of those handed in
 module _ (k : ℤ) {z w : ZOmega} (zw : List ℤ) (fits : SFits w64 k) (z-is : z ≡ zOf zw) (w-is : w ≡ wOf zw) where
@@ -101,9 +72,6 @@ module _ (old new : List ℕ) (j : Converted) (out : List ℕ) where
   lettersRead t = converts (ReadOutcome t old) new j out
 
 -- ---- Cliffords
-abbrev pub listed : List ℤ → Four
-listed x = record { a = getD x 0 (pos 0); b = getD x 1 (pos 0); c = getD x 2 (pos 0); d = getD x 3 (pos 0) }
-
 -- each of the four numbers fits
 pub record Small (f : Four) : Type 0 where
   pub a-fits : mag (f .a) < 2 ^ 31

@@ -35,7 +35,7 @@ use Rattle.synthesis_of_clifford_t.specs.Counts.{answer-enough}
 use Rattle.record.specs.declared.Record.{Record}
 use Rattle.record.specs.Meaning.{numbers, ReadOutcome, WriteOutcome}
 use Rattle.dunrossel.specs.Bench.{printed, refused, wordText, wordSize, asked, NumbersOutcome, OfRecord, BenchOutcome}
-use Rattle.dunrossel.specs.Handed.{held-is}
+use Rattle.handed.specs.Numbers.{held-is}
 
 -- job 4 on a record's numbers
 abbrev pub Job4Of : Numbers → List ℕ → Synthesis → List ℕ → Type 0

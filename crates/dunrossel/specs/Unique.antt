@@ -12,7 +12,8 @@ use Rattle.circuit.specs.Meaning.{Edition}
 use Rattle.qasm.specs.Outcome.{WriteOutcome, ReadOutcome}
 use Rattle.qasm.specs.Unique.{write-unique, read-unique}
 use Rattle.view.specs.Unique.{view-unique}
-use Rattle.dunrossel.specs.Exports.{zOf, wOf, Reduces, Multiplies, Views, Writes, Synthesises, Converts, argument, Multiplied, Inverted, Parted}
+use Rattle.dunrossel.specs.Exports.{Reduces, Multiplies, Views, Writes, Synthesises, Converts, argument, Multiplied, Inverted, Parted}
+use Rattle.handed.specs.Arrays.{zOf, wOf}
 
 pub reduces-unique : (k : ℤ) (n : ℕ) (zw : List ℤ) → Only (Reduces k n zw)
 reduces-unique k n zw = one-handed _ _ (reduce-unique k n (zOf zw) (wOf zw))

@@ -1,7 +1,7 @@
--- `dunrossel::axis_number` meets its contract: an axis's number.
+-- `handed::axis_number` meets its contract: an axis's number.
 use borrow.Author.Needs.{needs}
-use Rattle.dunrossel.proofs.axis_number.Statement.{statement}
-use Rattle.dunrossel.proofs.axis_number.Tie as tie
+use Rattle.handed.proofs.axis_number.Statement.{statement}
+use Rattle.handed.proofs.axis_number.Tie as tie
 
 enum-told : tie.Need-enum-told
 enum-told c = search needs

@@ -1,8 +1,8 @@
--- `dunrossel::wide` meets its contract: a byte fits.
-use Rattle.dunrossel.specs.Handed.{wide-is}
+-- `handed::wide` meets its contract: a byte fits.
+use Rattle.handed.specs.Numbers.{wide-is}
 use borrow.Author.Needs.{needs}
-use Rattle.dunrossel.proofs.wide.Statement.{statement}
-use Rattle.dunrossel.proofs.wide.Tie as tie
+use Rattle.handed.proofs.wide.Statement.{statement}
+use Rattle.handed.proofs.wide.Tie as tie
 
 cast-result : tie.Need-cast-result
 cast-result c = search needs

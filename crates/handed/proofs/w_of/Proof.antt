@@ -1,7 +1,7 @@
--- `dunrossel::w_of` meets its contract: the last four numbers of the array.
+-- `handed::w_of` meets its contract: the last four numbers of the array.
 use borrow.Author.Needs.{needs}
-use Rattle.dunrossel.proofs.w_of.Statement.{statement}
-use Rattle.dunrossel.proofs.w_of.Tie as tie
+use Rattle.handed.proofs.w_of.Statement.{statement}
+use Rattle.handed.proofs.w_of.Tie as tie
 
 element-copy-out-t4 : tie.Need-element-copy-out-t4
 element-copy-out-t4 c = search needs

@@ -1,8 +1,8 @@
--- `dunrossel::narrow` meets its contract: a byte fits.
-use Rattle.dunrossel.specs.Handed.{narrow-is}
+-- `handed::narrow` meets its contract: a byte fits.
+use Rattle.handed.specs.Numbers.{narrow-is}
 use borrow.Author.Needs.{needs}
-use Rattle.dunrossel.proofs.narrow.Statement.{statement}
-use Rattle.dunrossel.proofs.narrow.Tie as tie
+use Rattle.handed.proofs.narrow.Statement.{statement}
+use Rattle.handed.proofs.narrow.Tie as tie
 
 cast-result : tie.Need-cast-result
 cast-result c = search needs

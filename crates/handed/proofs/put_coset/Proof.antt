@@ -1,11 +1,11 @@
--- `dunrossel::put_coset` meets its contract: the axis by its number, and the rest as it is.
+-- `handed::put_coset` meets its contract: the axis by its number, and the rest as it is.
 use mathlib.Core.Path.{_∙_, ap}
 use mathlib.Core.List.{[], _∷_}
 use lib.IntN.{pos}
-use Rattle.dunrossel.specs.Handed.{narrow-held}
+use Rattle.handed.specs.Numbers.{narrow-held}
 use borrow.Author.Needs.{needs}
-use Rattle.dunrossel.proofs.put_coset.Statement.{statement}
-use Rattle.dunrossel.proofs.put_coset.Tie as tie
+use Rattle.handed.proofs.put_coset.Statement.{statement}
+use Rattle.handed.proofs.put_coset.Tie as tie
 
 axis-number-requires : tie.Need-axis-number-requires
 axis-number-requires c κs = search needs

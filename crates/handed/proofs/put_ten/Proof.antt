@@ -1,9 +1,9 @@
--- `dunrossel::put_ten` meets its contract: each number as it is.
+-- `handed::put_ten` meets its contract: each number as it is.
 use mathlib.Core.List.{[], _∷_}
-use Rattle.dunrossel.specs.Handed.{wide-held, four-held}
+use Rattle.handed.specs.Numbers.{wide-held, four-held}
 use borrow.Author.Needs.{needs}
-use Rattle.dunrossel.proofs.put_ten.Statement.{statement}
-use Rattle.dunrossel.proofs.put_ten.Tie as tie
+use Rattle.handed.proofs.put_ten.Statement.{statement}
+use Rattle.handed.proofs.put_ten.Tie as tie
 
 wide-requires : tie.Need-wide-requires
 wide-requires c κs = search needs
