@@ -60,14 +60,14 @@ fn damage(report: &mut Report, text: &[u8], at: usize, others: &[u8]) {
 }
 
 /// Every circuit of up to four statements damaged at every byte; those of up to two by every other byte, the longer ones
-/// and the heads before a statement by one, in turn. The heads of the longer ones are left alone.
+/// and the heads before a statement by one, in turn.
 pub fn damaged(report: &mut Report) {
     let bytes = bytes();
     for (edition, len) in EDITIONS.iter().flat_map(|edition| (0..=4).map(move |len| (*edition, len))) {
         let head = edition.head().len();
         for (i, circuit) in circuits(edition, len).enumerate() {
             let text = edition.text(&circuit);
-            for at in if len > 2 { head } else { 0 }..text.len() {
+            for at in 0..text.len() {
                 let turn = bytes.iter().copied().cycle().skip((i * 7 + at) % bytes.len()).find(|b| *b != text[at]);
                 let one = len > 2 || (len > 0 && at < head);
                 damage(report, &text, at, if one { turn.as_slice() } else { &bytes });
