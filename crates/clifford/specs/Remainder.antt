@@ -1,5 +1,5 @@
 -- The remainder from 0 up, by way of -1 - x, which fits whatever fits. Assumes nothing.
-use mathlib.Core.Path.{_≡_, refl, sym, _∙_, ap, subst}
+use mathlib.Core.Path.{_≡_, refl, sym, _∙_, subst}
 use mathlib.Core.Bool.{true, false}
 use Prim.Native.Nat.{ℕ, _-_, _%_, _<_, _≤_}
 use native.Mathlib.Nat.{mod-lt}
@@ -11,23 +11,10 @@ use lib.Signed.{ltZ, nonNeg}
 use mir.Syntax.{w32}
 use mir.Val.{Fits, SFits}
 use mir.Facts.{toZ-ofZ}
-use Rattle.exact.specs.Whole.Linear.{int, difference}
 use Rattle.exact.specs.Whole.Machine.{held}
+use Rattle.exact.specs.Whole.Flipped.{flipped, flip-fits, flip-held}
 use Rattle.clifford.specs.declared.Clifford.{Clifford}
 use Rattle.clifford.specs.Job6.{modulo, reduced, reduced-ranged, Ranged, Reduced}
-
--- -1 - x
-abbrev flipped : ℤ → ℤ
-flipped (pos n) = negsuc n
-flipped (negsuc n) = pos n
-
-flip-is : (x : ℤ) → negsuc 0 -ℤ x ≡ flipped x
-flip-is (pos n) = omega (arith, int, difference (negsuc 0) (pos n))
-flip-is (negsuc n) = omega (arith, int, difference (negsuc 0) (negsuc n))
-
-flipped-fits : (x : ℤ) → SFits w32 x → SFits w32 (flipped x)
-flipped-fits (pos n) f = record { sfits = f .sfits }
-flipped-fits (negsuc n) f = record { sfits = f .sfits }
 
 remainder-few : (n m : ℕ) → 0 < m → n % m ≤ m - 1
 remainder-few n m h = let l : n % m < m = mod-lt n h in omega arith
@@ -62,10 +49,10 @@ module _ (x : ℤ) (m : ℕ) (h : 0 < m) (f : SFits w32 x) where
   back = toZ-ofZ f
 
   pub y-fits : SFits w32 (negsuc 0 -ℤ held w32 x)
-  y-fits = rw (back, flip-is x) (flipped-fits x f)
+  y-fits = flip-fits x f
 
   y-is : y x ≡ flipped x
-  y-is = toZ-ofZ y-fits ∙ ap (λ z. negsuc 0 -ℤ z) back ∙ flip-is x
+  y-is = flip-held x f
 
   pub y-cast : ltZ (held w32 x) (pos 0) ≡ true → T (nonNeg (y x)) × Fits w32 (natAbs (y x))
   y-cast e = rw y-is (below-cast x f (rw back at e))

@@ -7,3 +7,4 @@ pub mod RootTwo
 pub mod OmegaPower
 pub mod Norm
 pub mod Over
+pub mod Twos

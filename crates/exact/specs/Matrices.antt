@@ -5,5 +5,6 @@ pub mod Star
 pub mod Test
 pub mod Words
 pub mod Triples
+pub mod Divided
 pub mod Least
 pub mod Sizes

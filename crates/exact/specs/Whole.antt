@@ -4,3 +4,5 @@ pub mod Linear
 pub mod Parity
 pub mod Size
 pub mod Machine
+pub mod Flipped
+pub mod Twos

@@ -2,3 +2,5 @@
 pub mod Number
 pub mod Code
 pub mod Parities
+pub mod Divided
+pub mod Trailing

@@ -4,8 +4,7 @@ use mathlib.Core.List.{List, [], _∷_}
 use Prim.Native.Nat.{ℕ, _-_, _^_, _<_}
 use native.Mathlib.Omega.{arith}
 use lib.IntN.{ℤ, pos, _-ℤ_}
-use Rattle.exact.specs.Meaning.Number.{Quad, Ω, ints, quads, power, mulQ, omega′, omega^}
-use Rattle.exact.specs.Whole.Parity.{half}
+use Rattle.exact.specs.Meaning.Number.{Quad, Ω, ints, quads, power, negQ, mulQ, omega′, omega^}
 use Rattle.exact.specs.Algebra.Ring.{ints-laws}
 use Rattle.exact.specs.Algebra.Solver.{Expr, con, _⊝_, exprs}
 use Rattle.exact.specs.Algebra.Omega.{X₀, parts, solveQ}
@@ -29,9 +28,12 @@ turned x =
     solveQ ints ints-laws (parts x []) (mulQ exprs (omega′ exprs) X₀) (record { a = X₀ .b; b = X₀ .c; c = X₀ .d; d = con (pos 0) ⊝ X₀ .a })
     (tt, tt, tt, tt)
 
--- each half, rounded down
-abbrev pub halves : Ω → Ω
-halves x = record { a = half (x .a); b = half (x .b); c = half (x .c); d = half (x .d) }
+-- less than nothing, as the machine does it
+pub negated : (x : Ω) → negQ ints x ≡ record { a = pos 0 -ℤ x .a; b = pos 0 -ℤ x .b; c = pos 0 -ℤ x .c; d = pos 0 -ℤ x .d }
+negated x = solveQ ints ints-laws (parts x []) (negQ exprs X₀) less (tt, tt, tt, tt)
+  where
+    less : Quad Expr
+    less = record { a = con (pos 0) ⊝ X₀ .a; b = con (pos 0) ⊝ X₀ .b; c = con (pos 0) ⊝ X₀ .c; d = con (pos 0) ⊝ X₀ .d }
 
 -- ---- by the inverse of omega, once, twice and three times
 abbrev turns : ℕ → Quad Expr

@@ -1,12 +1,16 @@
 // Ring numbers a·omega^3 + b·omega^2 + c·omega + d with 64-bit coefficients, after src/ring in the Rust.
 ghost use mathlib.Core.Path.{_≡_};
-ghost use Prim.Native.Nat.{_^_, _-_, _≤_, _<_};
+ghost use Prim.Native.Nat.{_+_, _^_, _-_, _≤_, _<_};
+ghost use lib.Dec.{T};
+ghost use lib.IntN.{natAbs};
 ghost use Rattle.exact.specs.Meaning.Number.{Sized};
-ghost use Rattle.exact.specs.Meaning.Number.{ints, addQ, negQ, mulQ, omega′, omega^, bit, residue};
+ghost use Rattle.exact.specs.Meaning.Number.{ints, addQ, negQ, mulQ, omega′, omega^, root2, root2^, bit, residue};
 ghost use Rattle.exact.specs.Meaning.Number as Meaning;
 ghost use Rattle.exact.specs.Meaning.Triple.{squares, crosses};
-ghost use Rattle.exact.specs.Algebra.Over.{divides, over};
-ghost use Rattle.ring.specs.Number.{quad, Small, halves};
+ghost use Rattle.exact.specs.Whole.Twos.{Zeros};
+ghost use Rattle.exact.specs.Algebra.Over.{divides};
+ghost use Rattle.exact.specs.Algebra.Twos.{Multiple, Shares};
+ghost use Rattle.ring.specs.Number.{quad, Small};
 
 pub struct ZOmega {
     pub a: i64,
@@ -20,6 +24,24 @@ pub fn odd(x: i64) -> bool
     ensures { λ r. ⌜ r ≡ Meaning.odd x ⌝ }
 {
     x & 1 != 0
+}
+
+// Without its sign; -2^63 has one too.
+fn magnitude(x: i64) -> u64
+    ensures { λ r. ⌜ r ≡ natAbs x ⌝ }
+{
+    if x < 0 { (-1 - x) as u64 + 1 } else { x as u64 }
+}
+
+// How often 2 divides it, and 0 for 0.
+pub fn ntz(x: i64) -> u8
+    ensures { λ r. ⌜ Zeros x r ⌝ }
+{
+    let size = magnitude(x);
+    if size == 0 {
+        return 0;
+    }
+    u64::trailing_zeros(size) as u8
 }
 
 // The parity as a number.
@@ -121,10 +143,21 @@ impl ZOmega {
         !odd(b + d) && !odd(c + a)
     }
 
-    // Divided by root two, where that is allowed.
+    // Its trailing zeros are those that the four coefficients have in common.
+    pub fn common(self) -> i64
+        ensures { λ r. ⌜ Shares (quad self) r ⌝ }
+    {
+        let a = self.a;
+        let b = self.b;
+        let c = self.c;
+        let d = self.d;
+        a | b | c | d
+    }
+
+    // Divided by root two.
     pub fn mul_by_inv_sqrt2(self) -> ZOmega
-        requires { ⌜ Small self ⌝ }
-        ensures { λ r. ⌜ quad r ≡ over (quad self) ⌝ }
+        requires { ⌜ Small self ⌝ ∗ ⌜ T (divides (quad self)) ⌝ }
+        ensures { λ r. ⌜ mulQ ints (root2 ints) (quad r) ≡ quad self ⌝ }
     {
         let a = self.a;
         let b = self.b;
@@ -138,20 +171,36 @@ impl ZOmega {
         }
     }
 
-    // Each coefficient shifted right by one.
-    pub fn halved(self) -> ZOmega
-        requires { ⌜ Small self ⌝ }
-        ensures { λ r. ⌜ quad r ≡ halves (quad self) ⌝ }
+    // Divided by 2 to the m, each coefficient shifted right.
+    pub fn halved(self, m: u8) -> ZOmega
+        requires { ⌜ Small self ⌝ ∗ ⌜ m < 64 ⌝ ∗ ⌜ Multiple m (quad self) ⌝ }
+        ensures { λ r. ⌜ mulQ ints (root2^ (m + m)) (quad r) ≡ quad self ⌝ }
     {
         let a = self.a;
         let b = self.b;
         let c = self.c;
         let d = self.d;
         ZOmega {
-            a: a >> 1,
-            b: b >> 1,
-            c: c >> 1,
-            d: d >> 1,
+            a: a >> m,
+            b: b >> m,
+            c: c >> m,
+            d: d >> m,
+        }
+    }
+
+    pub fn neg(self) -> ZOmega
+        requires { ⌜ Small self ⌝ }
+        ensures { λ r. ⌜ quad r ≡ negQ ints (quad self) ⌝ }
+    {
+        let a = self.a;
+        let b = self.b;
+        let c = self.c;
+        let d = self.d;
+        ZOmega {
+            a: -a,
+            b: -b,
+            c: -c,
+            d: -d,
         }
     }
 

@@ -5,7 +5,7 @@ use native.Mathlib.Omega.{arith}
 use lib.Dec.{T}
 use lib.IntN.{pos, _+ℤ_}
 use borrow.Author.Tests.{ne-eqb}
-use Prim.Native.Nat.{ℕ, zero, suc, _≤_, _<_, _+_, _-_, _^_}
+use Prim.Native.Nat.{ℕ, _≤_, _<_, _+_, _-_, _^_}
 use Rattle.exact.specs.Meaning.Matrix.{Same, _·_, unit}
 use Rattle.exact.specs.Meaning.Word.{Letter, I, H, S, X, W, T′, letter, byte}
 use Rattle.exact.specs.Cases.Letters.{letterOf, letterOf-byte}
@@ -19,20 +19,14 @@ use Rattle.exact.specs.Algebra.Over.{divides}
 use Rattle.exact.specs.Matrices.Same.{Same-refl, Same-sym, Same-trans, Same-of, Same-mul, mul-assoc, unit-mul}
 use Rattle.exact.specs.Matrices.Test.{same-by}
 use Rattle.exact.specs.Matrices.Triples.{act, acts, unitary-same, unitary-act}
-use Rattle.exact.specs.Matrices.Sizes.{z-sized, w-sized, sized-le, add-sized, neg-sized, omega-sized, over-sized}
-use Rattle.exact.specs.Matrices.Least.{lowered, lowered-same, modEight, modEight-same, test-reduced, reduced-test, reducedTest, lowest}
-use Rattle.ring.specs.Number.{quad, Small, halves}
+use Rattle.exact.specs.Matrices.Sizes.{z-sized, w-sized, sized-le, add-sized, neg-sized, omega-sized}
+use Rattle.exact.specs.Matrices.Least.{modEight, modEight-same, test-reduced, reduced-test, reducedTest, lowest}
+use Rattle.ring.specs.Number.{quad, Small}
 use Rattle.ring.specs.declared.ZOmega.{ZOmega}
 use Rattle.unitary.specs.Triples.{triple}
 use Rattle.unitary.specs.Outcomes.{Answers}
 use Rattle.unitary.specs.Checks.{bothTest}
 use Rattle.unitary.specs.declared.DOmegaUnitary.{DOmegaUnitary}
-
--- what holds of the number before k
-pub record Both (P : ℕ → Type 0) (k : ℕ) : Type 0 where
-  pub before : ℕ
-  pub is : k ≡ suc before
-  pub holds : P before
 
 pub record Good (t : DOmegaUnitary) : Type 0 where
   pub unitary : Unitary (triple t)
@@ -58,56 +52,6 @@ twice-turned x e =
 abbrev pub turnedBack : ℕ → Triple → Triple
 turnedBack m t = record { k = t .k; n = t .n + (8 - m); z = t .z; w = mulQ ints (omega^ (8 - m)) (t .w) }
 
--- z and w halved, as two divisions do
-abbrev pub halved : Triple → Triple
-halved t = record { k = t .k - 2; n = t .n; z = halves (t .z); w = halves (t .w) }
-
--- ---- reducing, one division after the other
-pub record Lowering (s t : DOmegaUnitary) : Type 0 where
-  pub same : Same (entries (triple t)) (entries (triple s))
-  pub z-small : Small (t .z)
-  pub w-small : Small (t .w)
-  pub n-same : t .n ≡ s .n
-
-module _ {s t r : DOmegaUnitary} (h : Lowering s t) {b : Bool} (test : b ≡ bothTest (triple t)) (yes : b ≡ true) where
-  pub lower-more : Both (λ k. triple r ≡ lowered k (triple t)) (t .k) → Lowering s r
-  lower-more e =
-      record {
-        same =
-            Same-trans (Same-trans (Same-of (ap entries (e .holds))) (lowered-same (e .before) (triple t) (e .is) (rw (sym test ∙ yes) tt)))
-            (h .same);
-        z-small = record { sized = subst (Sized (2 ^ 31)) (sym (ap (λ u. u .z) (e .holds))) (over-sized (2 ^ 31) (quad (t .z)) (h .z-small .sized)) };
-        w-small = record { sized = subst (Sized (2 ^ 31)) (sym (ap (λ u. u .w) (e .holds))) (over-sized (2 ^ 31) (quad (t .w)) (h .w-small .sized)) };
-        n-same = ap (λ u. u .n) (e .holds) ∙ h .n-same;
-      }
-
-pub lower-less : (t r : DOmegaUnitary) → Both (λ k. triple r ≡ lowered k (triple t)) (t .k) → r .k < t .k
-lower-less t r b = omega (arith, b .is, ap (λ u. u .k) (b .holds))
-
--- where no further division is made, the triple is reduced
-module _ {s t : DOmegaUnitary} (u : Triple) (h : Lowering s t) (e : triple s ≡ modEight u) where
-  lowest-left : T (reducedTest (triple t)) → Answers (entries u) (triple t)
-  lowest-left d =
-      record {
-        same = Same-trans (h .same) (Same-trans (Same-of (ap entries e)) (Same-of (modEight-same u)));
-        reduced = test-reduced (triple t) d;
-        n-small = omega (arith, h .n-same, ap (λ v. v .n) e);
-      }
-
-  pub lower-none : t .k ≤ 0 → Answers (entries u) (triple t)
-  lower-none l = lowest-left (go (t .k) l)
-    where
-      go : (k : ℕ) → k ≤ 0 → T (lowest k (divides (quad (t .z)) && divides (quad (t .w))))
-      go zero h = tt
-      go (suc k) h = absurd (omega arith)
-
-  pub lower-done : {b : Bool} → b ≡ bothTest (triple t) → b ≡ false → Answers (entries u) (triple t)
-  lower-done {b} test stop = lowest-left (go (t .k))
-    where
-      go : (k : ℕ) → T (lowest k (divides (quad (t .z)) && divides (quad (t .w))))
-      go zero = tt
-      go (suc k) = rw (sym test ∙ stop) tt
-
 -- ---- within the limits, coefficients are small
 module _ (t : DOmegaUnitary) (g : Good t) (h : t .k ≤ deepest) where
   z-sized′ : Sized (2 ^ 30) (quad (t .z))
@@ -121,6 +65,9 @@ module _ (t : DOmegaUnitary) (g : Good t) (h : t .k ≤ deepest) where
 
   pub good-w : Small (t .w)
   good-w = record { sized = sized-le (omega arith) w-sized′ }
+
+  pub h-k : (r : DOmegaUnitary) → triple r ≡ modEight (act H (triple t)) → r .k ≤ 61
+  h-k r e = omega (arith, ap (λ u. u .k) e)
 
   -- and so are those after H
   pub h-small : (r : DOmegaUnitary) → triple r ≡ modEight (act H (triple t)) → Small (r .z) × Small (r .w)

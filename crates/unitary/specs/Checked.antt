@@ -1,5 +1,5 @@
 -- The ways out of `check`, and of job 1 behind it: a lemma for each, over plain values. Assumes nothing.
-use mathlib.Core.Path.{_≡_, refl, subst}
+use mathlib.Core.Path.{_≡_, refl, ap, subst}
 use mathlib.Core.Bool.{Bool, true, false, not}
 use Prim.Native.Nat.{ℕ, _≤_}
 use native.Mathlib.Omega.{arith}
@@ -96,6 +96,9 @@ module _ {k : ℤ} {z w : ZOmega} (fits : SFits w64 k) {r : ℕ} (checked : Chec
   taken-small e =
       let h = taken e .coefficients-in in
       (record { sized = sized-le (omega arith) (h .z-in) }, record { sized = sized-le (omega arith) (h .w-in) })
+
+  pub taken-k : r ≡ 0 → natAbs (held w64 k) ≤ 61
+  taken-k e = omega (arith, ap natAbs (toZ-ofZ fits), exponent-size k (taken e .exponent-in))
 
   -- what comes behind the check: refused as it says, or passed on
   module _ {R : Type 0} (refused : ℕ → ℕ → R) (Answer : R → Type 0) (more : Meaning.Refusals) where

@@ -4,6 +4,7 @@ pub mod Outcomes
 pub mod Checks
 pub mod Checked
 pub mod Acts
+pub mod Reducing
 pub mod Letters
 pub mod Reading
 pub mod Unique

@@ -1,6 +1,7 @@
 // Triples (z, w, n) over root two to the k in 64 bits, after src/unitary.rs: job 1, reduce and check; job 2, word to matrix.
 ghost use mathlib.Core.Path.{_≡_};
 ghost use Prim.Native.Nat.{_+_, _^_, _≤_, _<_};
+ghost use lib.Dec.{T};
 ghost use lib.IntN.{pos, natAbs};
 ghost use Rattle.exact.specs.Meaning.Limits.{largest, deepest};
 ghost use Rattle.exact.specs.Meaning.Number.{Sized};
@@ -9,14 +10,17 @@ ghost use Rattle.exact.specs.Meaning.Word.{In};
 ghost use Rattle.exact.specs.Meaning.Triple.{entries};
 ghost use Rattle.exact.specs.Meaning.Refusals.{InCoefficients};
 ghost use Rattle.exact.specs.Cases.Letters.{letterOf};
-ghost use Rattle.exact.specs.Matrices.Least.{lowered, modEight};
+ghost use Rattle.exact.specs.Algebra.Twos.{Multiple};
+ghost use Rattle.exact.specs.Matrices.Divided.{Divided};
+ghost use Rattle.exact.specs.Matrices.Least.{modEight};
 ghost use Rattle.exact.specs.Matrices.Triples.{act, identity};
 ghost use Rattle.ring.specs.Number.{quad, Small};
 ghost use Rattle.unitary.specs.Triples.{triple, none};
 ghost use Rattle.unitary.specs.Outcomes.{Answers, ReduceOutcome, stopped, MatrixOutcome};
 ghost use Rattle.unitary.specs.Checks.{Decides, UnitaryAt, CheckOutcome, bothTest};
 ghost use Rattle.unitary.specs.Letters.{Scanned};
-ghost use Rattle.unitary.specs.Acts.{Good, Acted, Both, halved, turnedBack};
+ghost use Rattle.unitary.specs.Acts.{Good, Acted, turnedBack};
+ghost use Rattle.unitary.specs.Reducing.{Twos};
 use ring::ZOmega;
 
 pub struct DOmegaUnitary {
@@ -175,8 +179,8 @@ impl DOmegaUnitary {
 
     // The exponent one lower, z and w divided by root two.
     pub fn lowered(self) -> DOmegaUnitary
-        requires { ⌜ Small (self .z) ⌝ ∗ ⌜ Small (self .w) ⌝ ∗ ⌜ 0 < self .k ⌝ }
-        ensures { λ r. ⌜ Both (λ k. triple r ≡ lowered k (triple self)) (self .k) ⌝ }
+        requires { ⌜ Small (self .z) ⌝ ∗ ⌜ Small (self .w) ⌝ ∗ ⌜ 0 < self .k ⌝ ∗ ⌜ T (bothTest (triple self)) ⌝ }
+        ensures { λ r. ⌜ Divided 1 (triple self) (triple r) ⌝ }
     {
         let z = self.z;
         let w = self.w;
@@ -192,44 +196,68 @@ impl DOmegaUnitary {
         }
     }
 
-    // The exponent two lower, z and w halved.
-    pub fn halved(self) -> DOmegaUnitary
-        requires { ⌜ Small (self .z) ⌝ ∗ ⌜ Small (self .w) ⌝ ∗ ⌜ 1 < self .k ⌝ }
-        ensures { λ r. ⌜ triple r ≡ halved (triple self) ⌝ }
+    // The exponent 2m lower, z and w divided by 2 to the m.
+    pub fn halved(self, m: u8) -> DOmegaUnitary
+        requires { ⌜ Small (self .z) ⌝ ∗ ⌜ Small (self .w) ⌝ ∗ ⌜ (m < 64) × (m + m ≤ self .k) ⌝ ∗ ⌜ Multiple m (quad (self .z)) ⌝ ∗ ⌜ Multiple m (quad (self .w)) ⌝ }
+        ensures { λ r. ⌜ Divided (m + m) (triple self) (triple r) ⌝ }
     {
         let z = self.z;
         let w = self.w;
         let n = self.n;
         let k = self.k;
-        let new_z = z.halved();
-        let new_w = w.halved();
+        let new_z = z.halved(m);
+        let new_w = w.halved(m);
         DOmegaUnitary {
             z: new_z,
             w: new_w,
             n: n,
-            k: k - 2,
+            k: k - m - m,
         }
     }
 
-    // The reduced triple of the same matrix, n from 0 to 7.
+    // How often 2 divides both z and w, and at most k / 2.
+    fn twos(self) -> u8
+        requires { ⌜ self .k ≤ 61 ⌝ }
+        ensures { λ r. ⌜ Twos (triple self) r ⌝ }
+    {
+        let z = self.z;
+        let w = self.w;
+        let k = self.k;
+        let most = k / 2;
+        let z_common = z.common();
+        let w_common = w.common();
+        let common = z_common | w_common;
+        if common == 0 {
+            return most;
+        }
+        let m = ring::ntz(common);
+        if m > most { most } else { m }
+    }
+
+    // The reduced triple of the same matrix, n from 0 to 7: the twos that z and w share at once, then root two at most once.
     pub fn reduce_denomexp(self) -> DOmegaUnitary
-        requires { ⌜ Small (self .z) ⌝ ∗ ⌜ Small (self .w) ⌝ }
+        requires { ⌜ Small (self .z) ⌝ ∗ ⌜ Small (self .w) ⌝ ∗ ⌜ self .k ≤ 61 ⌝ }
         ensures { λ r. ⌜ Answers (entries (triple self)) (triple r) ⌝ }
     {
         let z = self.z;
         let w = self.w;
         let n = self.n;
         let k = self.k;
-        let mut t = DOmegaUnitary {
+        let t = DOmegaUnitary {
             z: z,
             w: w,
             n: n % 8,
             k: k,
         };
-        while t.k > 0 && t.divisible() {
-            t = t.lowered();
+        let m = t.twos();
+        let u = t.halved(m);
+        if u.k == 0 {
+            return u;
         }
-        t
+        if u.divisible() {
+            return u.lowered();
+        }
+        u
     }
 
     pub fn mul_by_t_from_left(self) -> DOmegaUnitary

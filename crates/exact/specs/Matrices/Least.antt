@@ -11,15 +11,15 @@ use Rattle.exact.specs.Meaning.Number.{Ω, ints, omegas, addQ, negQ, mul
 use Rattle.exact.specs.Meaning.Matrix.{Mat, scaleM, Matrix, Same, Least}
 use Rattle.exact.specs.Meaning.Word.{Letter, word}
 use Rattle.exact.specs.Meaning.Triple.{Triple, entries, Unitary, Reduced}
-use Rattle.exact.specs.Algebra.Ring.{ints-laws}
-use Rattle.exact.specs.Algebra.Solver.{var, _⊕_, _⊗_, ⊖, solve, ring₃}
-use Rattle.exact.specs.Algebra.Omega.{omegas-laws, conj-mul, root2^-add, root2^-cancel}
+use Rattle.exact.specs.Algebra.Solver.{var, _⊕_, _⊗_, ⊖, solve}
+use Rattle.exact.specs.Algebra.Omega.{omegas-laws, root2^-add, root2^-cancel}
 use Rattle.exact.specs.Algebra.OmegaPower.{omega^-mod, omega^-same}
 use Rattle.exact.specs.Algebra.Norm.{norm, unitary-equation, two^}
 use Rattle.exact.specs.Algebra.Over.{divides, over, over-times, times-divides}
-use Rattle.exact.specs.Matrices.Laws.{mat-path, scale-scale, scale-swap}
+use Rattle.exact.specs.Matrices.Laws.{scale-scale}
 use Rattle.exact.specs.Matrices.Same.{lifted, lifted-cancel, Same-refl, Same-sym, Same-trans, Same-of, Same-level}
 use Rattle.exact.specs.Matrices.Triples.{tripleOf, word-triple}
+use Rattle.exact.specs.Matrices.Divided.{Divided, divided-same}
 
 -- ---- of any matrix
 pub least-unique : {x : Matrix} {j k : ℕ} → Least x j → Least x k → j ≡ k
@@ -75,41 +75,13 @@ test-reduced t test = record { least = record { written = entries t .m; same = S
 abbrev pub lowered : ℕ → Triple → Triple
 lowered k t = record { k = k; n = t .n; z = over (t .z); w = over (t .w) }
 
+pub lowered-divided : (k : ℕ) (t : Triple) → t .k ≡ suc k → T (divides (t .z) && divides (t .w)) → Divided 1 t (lowered k t)
+lowered-divided k t e d =
+    let each = and-yes (divides (t .z)) (divides (t .w)) d in
+    record { k-is = omega (arith, e); n-is = refl; z-is = over-times (t .z) (each .0); w-is = over-times (t .w) (each .1) }
+
 pub lowered-same : (k : ℕ) (t : Triple) → t .k ≡ suc k → T (divides (t .z) && divides (t .w)) → Same (entries (lowered k t)) (entries t)
-lowered-same k t e d =
-    record {
-      same =
-          ap (λ j. lifted j (entries (lowered k t) .m)) e
-          ∙ scale-scale omegas omegas-laws (root2 ints) (root2^ k) (entries (lowered k t) .m)
-          ∙ scale-swap omegas omegas-laws (root2 ints) (root2^ k) (entries (lowered k t) .m)
-          ∙ ap (lifted k)
-          (mat-path z-is (column-q ∙ ap (λ x. negQ ints (mulQ ints (conjQ ints x) u)) w-is) w-is
-          (column-s ∙ ap (λ x. mulQ ints (conjQ ints x) u) z-is));
-    }
-  where
-    u : Ω
-    u = omega^ (t .n)
-
-    each : T (divides (t .z)) × T (divides (t .w))
-    each = and-yes (divides (t .z)) (divides (t .w)) d
-
-    z-is : mulQ ints (root2 ints) (over (t .z)) ≡ t .z
-    z-is = over-times (t .z) (each .0)
-
-    w-is : mulQ ints (root2 ints) (over (t .w)) ≡ t .w
-    w-is = over-times (t .w) (each .1)
-
-    column-s : mulQ ints (root2 ints) (mulQ ints (conjQ ints (over (t .z))) u) ≡ mulQ ints (conjQ ints (mulQ ints (root2 ints) (over (t .z)))) u
-    column-s =
-        sym (omegas-laws .mul-assoc (root2 ints) (conjQ ints (over (t .z))) u)
-        ∙ ap (λ x. mulQ ints x u) (sym (conj-mul ints ints-laws (root2 ints) (over (t .z))))
-
-    column-q :
-        mulQ ints (root2 ints) (negQ ints (mulQ ints (conjQ ints (over (t .w))) u))
-        ≡ negQ ints (mulQ ints (conjQ ints (mulQ ints (root2 ints) (over (t .w)))) u)
-    column-q =
-        ring₃ omegas omegas-laws (λ r x u. r ⊗ ⊖ (x ⊗ u)) (λ r x u. ⊖ (r ⊗ x ⊗ u)) tt (root2 ints) (conjQ ints (over (t .w))) u
-        ∙ ap (λ x. negQ ints (mulQ ints x u)) (sym (conj-mul ints ints-laws (root2 ints) (over (t .w))))
+lowered-same k t e d = divided-same 1 t (lowered k t) (lowered-divided k t e d)
 
 -- the test is met by reduced triples alone
 pub reduced-test : (t : Triple) → Reduced t → T (reducedTest t)

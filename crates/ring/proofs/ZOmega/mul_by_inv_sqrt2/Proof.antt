@@ -1,9 +1,8 @@
--- `ring::ZOmega::mul_by_inv_sqrt2` meets its contract: each coefficient by what its size allows.
+-- `ring::ZOmega::mul_by_inv_sqrt2` meets its contract: each coefficient by what its size allows, and the halves because root two divides.
 use Prim.Native.Nat.{_^_}
-use borrow.Author.Needs.{needs}
-use Rattle.exact.specs.Algebra.Omega.{quad-path}
-use Rattle.exact.specs.Whole.Machine.{arg, halved, _∔_, _∸_}
-use Rattle.ring.specs.Code.{fits₁, is₁}
+use Rattle.exact.specs.Whole.Machine.{arg, _∔_, _∸_}
+use Rattle.ring.specs.Code.{fits₁}
+use Rattle.ring.specs.Divided.{by-root-two}
 use Rattle.ring.proofs.ZOmega.mul_by_inv_sqrt2.Statement.{statement}
 use Rattle.ring.proofs.ZOmega.mul_by_inv_sqrt2.Tie as tie
 
@@ -21,11 +20,8 @@ sub-t12 c = search (fits₁ (2 ^ 31) (arg 2 ∸ arg 0) tt)
 
 returns : tie.Need-returns
 returns c =
-    quad-path
-    (search (needs, is₁ (2 ^ 31) (halved (arg 1 ∸ arg 3)) tt))
-    (search (needs, is₁ (2 ^ 31) (halved (arg 2 ∔ arg 0)) tt))
-    (search (needs, is₁ (2 ^ 31) (halved (arg 1 ∔ arg 3)) tt))
-    (search (needs, is₁ (2 ^ 31) (halved (arg 2 ∸ arg 0)) tt))
+    let s = c .before .before .before .before in
+    by-root-two (s .args .self) (s .pre .0) (s .pre .1)
 
 pub mul-by-inv-sqrt2-spec : {M : Type 1} → statement M
 mul-by-inv-sqrt2-spec = tie.close (tie.spec sub-t6 add-t8 add-t10 sub-t12 returns)

@@ -1,7 +1,7 @@
 -- `unitary::DOmegaUnitary::mul_by_letter_from_left` meets its contract, letter by letter.
 use native.Mathlib.Omega.{arith}
 use Rattle.exact.specs.Meaning.Word.{S, X, W, T′}
-use Rattle.unitary.specs.Acts.{good-z, good-w, h-small, byte-H, byte-plain, byte-none}
+use Rattle.unitary.specs.Acts.{good-z, good-w, h-small, h-k, byte-H, byte-plain, byte-none}
 use borrow.Author.Needs.{needs}
 use Rattle.unitary.proofs.DOmegaUnitary.mul_by_letter_from_left.Statement.{statement}
 use Rattle.unitary.proofs.DOmegaUnitary.mul_by_letter_from_left.Tie as tie
@@ -10,7 +10,9 @@ mul-by-h-from-left-requires : tie.Need-mul-by-h-from-left-requires
 mul-by-h-from-left-requires c κs = (search good-z, (search good-w, (search needs, omega (arith, c .before .pre .1))))
 
 reduce-denomexp-requires : tie.Need-reduce-denomexp-requires
-reduce-denomexp-requires c κs = h-small (c .before .before .args .self) (search needs) (search needs) _ (c .mul-by-h-from-left .ensures)
+reduce-denomexp-requires c κs =
+    let small = h-small (c .before .before .args .self) (search needs) (search needs) _ (c .mul-by-h-from-left .ensures) in
+    (small .0, (small .1, search h-k))
 
 returns : tie.Need-returns
 returns c = search byte-H

@@ -1,0 +1,36 @@
+-- `ring::ZOmega::neg` meets its contract: each coefficient by what its size allows.
+use mathlib.Core.Path.{sym, _∙_}
+use Prim.Native.Nat.{_^_}
+use lib.IntN.{pos}
+use borrow.Author.Needs.{needs}
+use Rattle.exact.specs.Algebra.Omega.{quad-path}
+use Rattle.exact.specs.Whole.Machine.{arg, lit, _∸_}
+use Rattle.ring.specs.Number.{quad, negated}
+use Rattle.ring.specs.Code.{fits₁, is₁}
+use Rattle.ring.proofs.ZOmega.neg.Statement.{statement}
+use Rattle.ring.proofs.ZOmega.neg.Tie as tie
+
+sub-t6 : tie.Need-sub-t6
+sub-t6 c = search (needs, fits₁ (2 ^ 31) (lit (pos 0) ∸ arg 0) tt)
+
+sub-t7 : tie.Need-sub-t7
+sub-t7 c = search (needs, fits₁ (2 ^ 31) (lit (pos 0) ∸ arg 1) tt)
+
+sub-t8 : tie.Need-sub-t8
+sub-t8 c = search (needs, fits₁ (2 ^ 31) (lit (pos 0) ∸ arg 2) tt)
+
+sub-t9 : tie.Need-sub-t9
+sub-t9 c = search (needs, fits₁ (2 ^ 31) (lit (pos 0) ∸ arg 3) tt)
+
+returns : tie.Need-returns
+returns c =
+    let s = c .before .before .before .before in
+    quad-path
+    (search (needs, is₁ (2 ^ 31) (lit (pos 0) ∸ arg 0) tt))
+    (search (needs, is₁ (2 ^ 31) (lit (pos 0) ∸ arg 1) tt))
+    (search (needs, is₁ (2 ^ 31) (lit (pos 0) ∸ arg 2) tt))
+    (search (needs, is₁ (2 ^ 31) (lit (pos 0) ∸ arg 3) tt))
+    ∙ sym (negated (quad (s .args .self)))
+
+pub neg-spec : {M : Type 1} → statement M
+neg-spec = tie.close (tie.spec sub-t6 sub-t7 sub-t8 sub-t9 returns)

@@ -1,0 +1,134 @@
+-- Reducing a triple: the twos that z and w share are taken off at once, by the trailing zeros of an `or`; then root two is at most once. Assumes
+-- nothing.
+use mathlib.Core.Path.{_≡_, refl, sym, _∙_, ap}
+use mathlib.Core.Bool.{Bool, true, false, _&&_}
+use Prim.Native.Nat.{ℕ, zero, suc, _+_, _/_, _%_, _^_, _≤_, _<_}
+use native.Mathlib.Nat.{zero-mod}
+use native.Mathlib.Omega.{arith}
+use lib.Dec.{T}
+use lib.Bits.{bitOr}
+use lib.IntN.{ℤ, natAbs}
+use mir.Facts.{and-yes, ofZ-toZ}
+use mir.Syntax.{w64}
+use mir.Val.{SFits, ofZ, toZ}
+use Rattle.exact.specs.Meaning.Number.{Ω, ints, mulQ, root2}
+use Rattle.exact.specs.Meaning.Matrix.{Same}
+use Rattle.exact.specs.Meaning.Triple.{Triple, entries}
+use Rattle.exact.specs.Whole.Twos.{Zeros, TwoTo, less-often, orZ, or-fits, or-each, or-all}
+use Rattle.exact.specs.Algebra.Over.{divides, over, over-times}
+use Rattle.exact.specs.Algebra.Twos.{Multiple, Shares, quotient-sized, twice-more}
+use Rattle.exact.specs.Matrices.Same.{Same-trans, Same-of}
+use Rattle.exact.specs.Matrices.Divided.{Divided, divided-same}
+use Rattle.exact.specs.Matrices.Least.{modEight, modEight-same, test-reduced, reducedTest, lowest}
+use Rattle.ring.specs.Number.{quad, Small}
+use Rattle.unitary.specs.Triples.{triple}
+use Rattle.unitary.specs.Outcomes.{Answers}
+use Rattle.unitary.specs.Checks.{bothTest}
+use Rattle.unitary.specs.declared.DOmegaUnitary.{DOmegaUnitary}
+
+-- 2 to the m divides both, m is at most half of k, and no more would do where there is more than one power of root two left
+pub record Twos (t : Triple) (m : ℕ) : Type 0 where
+  pub few : m + m ≤ t .k
+  pub z-so : Multiple m (t .z)
+  pub w-so : Multiple m (t .w)
+  pub no-more : suc (m + m) < t .k → Multiple (suc m) (t .z) → Multiple (suc m) (t .w) → ⊥
+
+-- ---- root two divides both, so each
+module _ (t : Triple) (h : T (bothTest t)) where
+  pub both-z : T (divides (t .z))
+  both-z = and-yes (divides (t .z)) (divides (t .w)) h .0
+
+  pub both-w : T (divides (t .w))
+  both-w = and-yes (divides (t .z)) (divides (t .w)) h .1
+
+pub both-so : (t : Triple) (b : Bool) → b ≡ bothTest t → b ≡ true → T (bothTest t)
+both-so t b e f = rw (sym e ∙ f) tt
+
+-- ---- finding m: a and b have the zeros that z's and w's coefficients share
+module _ (t : Triple) (small : t .k ≤ 61) (a b : ℤ) (f : SFits w64 a) (g : SFits w64 b) (z-shares : Shares (t .z) a) (w-shares : Shares (t .w) b) where
+  each : (m : ℕ) → m ≤ 64 → TwoTo m (orZ a b) → Multiple m (t .z) × Multiple m (t .w)
+  each m l h = let s = or-each a b f g m l h in (z-shares .each m l (s .0), w-shares .each m l (s .1))
+
+  half-of : (m : ℕ) → m ≡ t .k / 2 → TwoTo m (orZ a b) → Twos t m
+  half-of m e h =
+      let s = each m (omega arith) h in
+      record { few = omega arith; z-so = s .0; w-so = s .1; no-more = λ l p q. omega (arith, l) }
+
+  abbrev bitsOf : ℕ
+  bitsOf = bitOr (ofZ w64 a) (ofZ w64 b)
+
+  pub all-nought : bitsOf ≡ 0 → Twos t (t .k / 2)
+  all-nought h = half-of (t .k / 2) refl (ap (λ n. natAbs (toZ w64 n) % 2 ^ (t .k / 2)) h ∙ zero-mod (2 ^ (t .k / 2)))
+
+  module _ (m : ℕ) (zeros : Zeros (orZ a b) m) where
+    pub at-most : t .k / 2 < m → Twos t (t .k / 2)
+    at-most l = half-of (t .k / 2) refl (less-often (t .k / 2) m (natAbs (orZ a b)) (omega arith) (zeros .so-often))
+
+    pub all-shared : m ≤ t .k / 2 → (bitsOf ≡ 0 → ⊥) → Twos t m
+    all-shared l some =
+        let s = each m (omega (arith, zeros .few)) (zeros .so-often) in
+        record {
+          few = omega arith;
+          z-so = s .0;
+          w-so = s .1;
+          no-more = λ h p q.
+              zeros .no-more (λ n. some (sym (ofZ-toZ (or-fits a b f g)) ∙ ap (ofZ w64) n))
+              (or-all a b f g (suc m) (omega (arith, zeros .few)) (z-shares .all (suc m) (omega (arith, zeros .few)) p)
+              (w-shares .all (suc m) (omega (arith, zeros .few)) q));
+        }
+
+-- ---- taking them off: t with n from 0 to 7, and u without the twos
+module _ (m : ℕ) (t u : DOmegaUnitary) (d : Divided (m + m) (triple t) (triple u)) where
+  pub halved-z : Small (t .z) → Small (u .z)
+  halved-z x = record { sized = quotient-sized m (quad (t .z)) (quad (u .z)) (d .z-is) (2 ^ 31) (x .sized) }
+
+  pub halved-w : Small (t .w) → Small (u .w)
+  halved-w x = record { sized = quotient-sized m (quad (t .w)) (quad (u .w)) (d .w-is) (2 ^ 31) (x .sized) }
+
+-- s is the triple as it came
+module _ (s : Triple) (t u : DOmegaUnitary) (e : triple t ≡ modEight s) (m : ℕ) (h : Twos (triple t) m) (d : Divided (m + m) (triple t) (triple u)) where
+  u-same : Same (entries (triple u)) (entries s)
+  u-same = Same-trans (divided-same (m + m) (triple t) (triple u) d) (Same-of (ap entries e ∙ modEight-same s))
+
+  u-small : u .n < 8
+  u-small = omega (arith, d .n-is, ap (λ v. v .n) e)
+
+  left : T (reducedTest (triple u)) → Answers (entries s) (triple u)
+  left test = record { same = u-same; reduced = test-reduced (triple u) test; n-small = u-small }
+
+  -- k is 0
+  pub nothing-left : u .k ≡ 0 → Answers (entries s) (triple u)
+  nothing-left l = left (rw l tt)
+
+  module _ {b : Bool} (test : b ≡ bothTest (triple u)) where
+    -- root two does not divide both
+    pub none-left : b ≡ false → Answers (entries s) (triple u)
+    none-left stop = left (go (u .k))
+      where
+        go : (k : ℕ) → T (lowest k (divides (quad (u .z)) && divides (quad (u .w))))
+        go zero = tt
+        go (suc k) = rw (sym test ∙ stop) tt
+
+    -- it does, once
+    pub one-left : (r : DOmegaUnitary) → Divided 1 (triple u) (triple r) → Answers (entries s) (triple r)
+    one-left r c =
+        record {
+          same = Same-trans (divided-same 1 (triple u) (triple r) c) u-same;
+          reduced = test-reduced (triple r) (go (r .k) refl (divides (quad (r .z))) refl (divides (quad (r .w))) refl);
+          n-small = omega (arith, c .n-is, u-small);
+        }
+      where
+        twice : (y z : Ω) → mulQ ints (root2 ints) z ≡ y → T (divides z) → mulQ ints (root2 ints) (mulQ ints (root2 ints) (over z)) ≡ y
+        twice y z f i = ap (mulQ ints (root2 ints)) (over-times z i) ∙ f
+
+        clash : (k : ℕ) → r .k ≡ suc k → T (divides (quad (r .z))) → T (divides (quad (r .w))) → ⊥
+        clash k f i j =
+            h .no-more (omega (arith, d .k-is, c .k-is))
+            (twice-more m (quad (t .z)) (quad (u .z)) (d .z-is) (over (quad (r .z))) (twice (quad (u .z)) (quad (r .z)) (c .z-is) i))
+            (twice-more m (quad (t .w)) (quad (u .w)) (d .w-is) (over (quad (r .w))) (twice (quad (u .w)) (quad (r .w)) (c .w-is) j))
+
+        go : (k : ℕ) → r .k ≡ k → (p : Bool) → divides (quad (r .z)) ≡ p → (q : Bool) → divides (quad (r .w)) ≡ q → T (lowest k (p && q))
+        go zero f p i q j = tt
+        go (suc k) f false i q j = tt
+        go (suc k) f true i false j = tt
+        go (suc k) f true i true j = absurd (clash k f (rw i tt) (rw j tt))
