@@ -1,28 +1,30 @@
 -- The step in code: what each function on the way hands on, and that the answer is the case of the definition `reduction`. Assumes nothing.
-use mathlib.Core.Path.{_≡_, sym, _∙_, ap, ap₂}
+use mathlib.Core.Path.{_≡_, sym, _∙_, ap, ap₂, subst}
 use mathlib.Core.Bool.{Bool, true, false}
 use Prim.Native.Nat.{ℕ, zero, suc, _+_, _-_, _/_, _%_, _^_, _≤_, _<_}
 use native.Mathlib.Omega.{arith}
 use lib.Dec.{T}
-use mir.Facts.{and-yes}
 use Rattle.exact.specs.Meaning.Number.{Ω, ints, addQ, negQ, mulQ, omega′, omega^, odd, bit, residue, Sized}
 use Rattle.exact.specs.Meaning.Word.{H}
 use Rattle.exact.specs.Meaning.Triple.{Triple}
 use Rattle.exact.specs.Meaning.Limits.{deepest}
 use Rattle.exact.specs.Algebra.Omega.{omegas-laws}
-use Rattle.exact.specs.Algebra.Over.{divides}
+use Rattle.exact.specs.Algebra.Twos.{Multiple}
 use Rattle.exact.specs.Matrices.Triples.{act}
-use Rattle.exact.specs.Matrices.Least.{lowered, modEight}
+use Rattle.exact.specs.Matrices.Divided.{Divided, divided-once}
+use Rattle.exact.specs.Matrices.Least.{modEight}
 use Rattle.exact.specs.Matrices.Sizes.{z-sized, w-sized, sized-le, add-sized, neg-sized, omega-sized}
 use Rattle.ring.specs.Number.{quad, Small}
 use Rattle.unitary.specs.declared.DOmegaUnitary.{DOmegaUnitary}
 use Rattle.unitary.specs.Triples.{triple}
-use Rattle.unitary.specs.Acts.{Good, Both, turnedBack, halved}
+use Rattle.unitary.specs.Acts.{Good, turnedBack}
+use Rattle.unitary.specs.Checks.{bothTest}
 use Rattle.synthesis_of_clifford_t.specs.declared.Reduction as declared
 use Rattle.synthesis_of_clifford_t.specs.declared.Reduction.the-variants as variants
 use Rattle.synthesis_of_clifford_t.specs.Residues.{back, powerBy, fallsBy, powerBy-few}
 use Rattle.synthesis_of_clifford_t.specs.Step.{Ready, Reduction, Ended, Stepped, reduction, power, falls, next}
-use Rattle.synthesis_of_clifford_t.specs.Step.{explicit, fallen, over-over, falls-once, next-falls, next-stays}
+use Rattle.synthesis_of_clifford_t.specs.Step.{explicit, fallen, stayed, falls-even, stays-once}
+use Rattle.synthesis_of_clifford_t.specs.Step.{fallen-divided, stayed-divided, next-falls, next-stays}
 use Rattle.synthesis_of_clifford_t.specs.Synthesised.{reduction-stepped}
 
 -- a reduction's answer as the definition has it
@@ -130,32 +132,36 @@ module _ (t : DOmegaUnitary) (g : Good t) (h : t .k ≤ deepest) (m : ℕ) where
           stepped : triple v ≡ next (triple t) → Stepped m (triple v) ≡ reduction (triple t)
           stepped h = ap₂ Stepped m-is h ∙ sym (reduction-stepped (triple t) (t .k - 1) k-is)
 
-          -- k falls: halved
-          pub step-falls : b ≡ true → triple v ≡ halved (triple s) → Stepped m (triple v) ≡ reduction (triple t)
-          step-falls down v-is =
-              stepped (v-is ∙ ap halved is ∙ parts ∙ sym (next-falls (triple t) (t .k - 1) (good-ready g) k-is (falls-is ∙ down)))
-            where
-              x : Triple
-              x = explicit (power (triple t)) (triple t)
+          -- k falls: halved once
+          module _ (down : b ≡ true) where
+            evens : Multiple 1 (quad (s .z)) × Multiple 1 (quad (s .w))
+            evens =
+                subst (λ (u : Triple). Multiple 1 (u .z) × Multiple 1 (u .w)) (sym is)
+                (falls-even (triple t) (t .k - 1) (good-ready g) k-is (falls-is ∙ down))
 
-              once : T (divides (x .z)) × T (divides (x .w))
-              once = and-yes (divides (x .z)) (divides (x .w)) (falls-once (triple t) (t .k - 1) (good-ready g) k-is (falls-is ∙ down))
+            pub raised-even-z : Multiple 1 (quad (s .z))
+            raised-even-z = evens .0
 
-              lower : suc (t .k) - 2 ≡ t .k - 1
-              lower = omega arith
+            pub raised-even-w : Multiple 1 (quad (s .w))
+            raised-even-w = evens .1
 
-              parts : halved (modEight x) ≡ fallen (t .k - 1) (triple t)
-              parts = λ i. record {
-                k = lower i;
-                n = x .n % 8;
-                z = sym (over-over (x .z) (once .0)) i;
-                w = sym (over-over (x .w) (once .1)) i;
-              }
+            pub step-falls : Divided 2 (triple s) (triple v) → Stepped m (triple v) ≡ reduction (triple t)
+            step-falls d =
+                stepped
+                (divided-once 2 (triple s) (triple v) (fallen (t .k - 1) (triple t)) d
+                (subst (λ (u : Triple). Divided 2 u (fallen (t .k - 1) (triple t))) (sym is)
+                (fallen-divided (triple t) (t .k - 1) (good-ready g) k-is (falls-is ∙ down)))
+                ∙ sym (next-falls (triple t) (t .k - 1) (good-ready g) k-is (falls-is ∙ down)))
 
           -- k stays: divided once
-          pub step-stays : b ≡ false → Both (λ k. triple v ≡ lowered k (triple s)) (s .k) → Stepped m (triple v) ≡ reduction (triple t)
-          step-stays same v-is =
-              stepped (v-is .holds ∙ ap₂ lowered back-to is ∙ sym (next-stays (triple t) (t .k - 1) (good-ready g) k-is (falls-is ∙ same)))
-            where
-              back-to : v-is .before ≡ t .k
-              back-to = omega (arith, v-is .is, raised-k)
+          module _ (same : b ≡ false) where
+            pub raised-both : T (bothTest (triple s))
+            raised-both = subst (λ (u : Triple). T (bothTest u)) (sym is) (stays-once (triple t) (t .k - 1) (good-ready g) k-is (falls-is ∙ same))
+
+            pub step-stays : Divided 1 (triple s) (triple v) → Stepped m (triple v) ≡ reduction (triple t)
+            step-stays d =
+                stepped
+                (divided-once 1 (triple s) (triple v) (stayed (triple t)) d
+                (subst (λ (u : Triple). Divided 1 u (stayed (triple t))) (sym is)
+                (stayed-divided (triple t) (t .k - 1) (good-ready g) k-is (falls-is ∙ same)))
+                ∙ sym (next-stays (triple t) (t .k - 1) (good-ready g) k-is (falls-is ∙ same)))

@@ -7,26 +7,29 @@ use Prim.Native.Nat.{ℕ, zero, suc, _+_, _-_, _%_, _≤_, _<_}
 use native.Mathlib.Omega.{arith}
 use native.Mathlib.Nat.{add-zero}
 use lib.Dec.{T}
-use lib.IntN.{_+ℤ_}
-use mir.Facts.{yes-and}
-use Rattle.exact.specs.Meaning.Number.{Quad, Ω, ints, omegas, addQ, negQ, mulQ, omega^, root2, root2^, odd, residue}
+use lib.IntN.{ℤ, _+ℤ_}
+use mir.Facts.{and-yes, yes-and}
+use Rattle.exact.specs.Meaning.Number.{Quad, Ω, ints, omegas, addQ, negQ, mulQ, omega^, root2, root2^, odd, bit, residue}
 use Rattle.exact.specs.Meaning.Matrix.{scaleM, Matrix, unit, _·_, Same}
 use Rattle.exact.specs.Meaning.Word.{Letter, H, S, T′, letter, word}
 use Rattle.exact.specs.Meaning.Normal.{times}
 use Rattle.exact.specs.Meaning.Triple.{Triple, rows, entries, Unitary, Reduced}
-use Rattle.exact.specs.Whole.Parity.{xr, xr-self, odd-add, odd-sub, half, half-plus, half-minus, false-true}
+use Rattle.exact.specs.Whole.Parity.{xr, xr-self, odd-add, odd-sub, half-plus, false-true, bit-odd}
+use Rattle.exact.specs.Whole.Twos.{TwoTo}
 use Rattle.exact.specs.Algebra.Ring.{ints-laws}
 use Rattle.exact.specs.Algebra.Solver.{_⊗_, exprs, ring₃}
 use Rattle.exact.specs.Algebra.Omega.{omegas-laws, quad-path, root2^-add, X₀, parts, solveQ}
 use Rattle.exact.specs.Algebra.OmegaPower.{omega^-mod}
 use Rattle.exact.specs.Algebra.Norm.{norm, no-1011}
-use Rattle.exact.specs.Algebra.Over.{divides, over, even-sums}
+use Rattle.exact.specs.Algebra.Over.{divides, over, even-sums, over-times}
+use Rattle.exact.specs.Algebra.Twos.{Multiple}
 use Rattle.exact.specs.Matrices.Laws.{scale-scale}
 use Rattle.exact.specs.Matrices.Same.{mul-assoc, unit-mul, lifted, lifted-cancel, Same-refl, Same-sym, Same-trans, Same-of, Same-mul}
 use Rattle.exact.specs.Matrices.Test.{same-by}
 use Rattle.exact.specs.Matrices.Words.{word-append}
 use Rattle.exact.specs.Matrices.Triples.{act, acts, unitary-same, unitary-act}
-use Rattle.exact.specs.Matrices.Least.{reduced-test, lowered, lowered-same, Reduces, reduce, reduce-reduces, answer-unique}
+use Rattle.exact.specs.Matrices.Divided.{Divided}
+use Rattle.exact.specs.Matrices.Least.{reduced-test, lowered, lowered-same, modEight, Reduces, reduce, reduce-reduces, answer-unique}
 use Rattle.synthesis_of_clifford_t.specs.Residues.{odds, opposite, back, powerBy-few, powerOf, fallsOf}
 use Rattle.synthesis_of_clifford_t.specs.Residues.{agreeing, differing, stays-class, one-class, four-classes, class-0000, class-0001}
 
@@ -216,15 +219,23 @@ module _ (x : Ω) where
       told : {b : Bool} → b ≡ false → T b → ⊥
       told e t = rw e at t
 
-  -- divided twice is halved
-  pub over-over : T (divides x) → over (over x) ≡ record { a = half (x .a); b = half (x .b); c = half (x .c); d = half (x .d) }
-  over-over t =
-      let s = even-sums x t in
-      quad-path
-      (ap half (half-minus (x .c) (x .a) (s .1)))
-      (ap half (half-plus (x .b) (x .d) (s .0)))
-      (ap half (half-plus (x .c) (x .a) (s .1)))
-      (ap half (half-minus (x .b) (x .d) (s .0)))
+  -- all even
+  even-multiple : odds x ≡ every false → Multiple 1 x
+  even-multiple e =
+      record {
+        a-so = even (x .a) (ap (λ q. q .a) e);
+        b-so = even (x .b) (ap (λ q. q .b) e);
+        c-so = even (x .c) (ap (λ q. q .c) e);
+        d-so = even (x .d) (ap (λ q. q .d) e);
+      }
+    where
+      even : (z : ℤ) → odd z ≡ false → TwoTo 1 z
+      even z f = sym (bit-odd z) ∙ ap bit f
+
+  -- divided twice
+  over-over-times : T (divides x) → T (divides (over x)) → mulQ ints (root2^ 2) (over (over x)) ≡ x
+  over-over-times t u =
+      omegas-laws .mul-assoc (root2 ints) (root2 ints) (over (over x)) ∙ ap (mulQ ints (root2 ints)) (over-times (over x) u) ∙ over-times x t
 
 -- ---- a matrix that can be written two exponents lower has even entries
 module _ (x y : Matrix) (h : Same x y) where
@@ -338,6 +349,20 @@ module _ (t : Triple) (k : ℕ) (ready : Ready t) (e : t .k ≡ suc k) where
     pub falls-twice : T (divides (over (x .z)) && divides (over (x .w)))
     falls-twice = both (over (x .z)) (over (x .w)) (even-divides-again (x .z) z-even) (even-divides-again (x .w) w-even)
 
+    pub falls-even : Multiple 1 (x .z) × Multiple 1 (x .w)
+    falls-even = (even-multiple (x .z) z-even, even-multiple (x .w) w-even)
+
+    pub fallen-divided : Divided 2 (modEight x) (fallen k t)
+    fallen-divided =
+        let one = and-yes (divides (x .z)) (divides (x .w)) falls-once in
+        let two = and-yes (divides (over (x .z))) (divides (over (x .w))) falls-twice in
+        record {
+          k-is = omega (arith, e);
+          n-is = refl;
+          z-is = over-over-times (x .z) (one .0) (two .0);
+          w-is = over-over-times (x .w) (one .1) (two .1);
+        }
+
     fallen-same : Same (entries (fallen k t)) (entries x)
     fallen-same =
         Same-trans (Same-of (small-same (lowered k (lowered (suc k) x))))
@@ -358,6 +383,11 @@ module _ (t : Triple) (k : ℕ) (ready : Ready t) (e : t .k ≡ suc k) where
 
     pub stays-once : T (divides (x .z) && divides (x .w))
     stays-once = both (x .z) (x .w) (alike-divides (x .z) true z-odd) (alike-divides (x .w) true w-odd)
+
+    pub stayed-divided : Divided 1 (modEight x) (stayed t)
+    stayed-divided =
+        let one = and-yes (divides (x .z)) (divides (x .w)) stays-once in
+        record { k-is = omega arith; n-is = refl; z-is = over-times (x .z) (one .0); w-is = over-times (x .w) (one .1) }
 
     stayed-same : Same (entries (stayed t)) (entries x)
     stayed-same = Same-trans (Same-of (small-same (lowered (t .k) x))) (lowered-same (t .k) x refl stays-once)

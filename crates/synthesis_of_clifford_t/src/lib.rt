@@ -88,7 +88,7 @@ pub fn reduce_denomexp(t: DOmegaUnitary) -> Reduction
     let turned = t.mul_by_t_inv_power_from_left(m);
     let raised = turned.mul_by_h_from_left();
     if falls(p as usize, q as usize) {
-        let next = raised.halved();
+        let next = raised.halved(1);
         return Reduction::Step(m, next);
     }
     let next = raised.lowered();

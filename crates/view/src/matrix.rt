@@ -40,17 +40,11 @@ pub fn entries(k: u32, n: u8, z: ZOmega, w: ZOmega) -> View
     requires { ⌜ (k ≤ 60) × Unitary (record { k = k; n = n; z = quad z; w = quad w }) ⌝ }
     ensures { λ r. ⌜ Viewed (record { k = k; n = n; z = quad z; w = quad w }) r ⌝ }
 {
-    let nil = ZOmega {
-        a: 0,
-        b: 0,
-        c: 0,
-        d: 0,
-    };
     let zc = conj(z);
     let zu = mul_by_omega_power(zc, n);
     let wc = conj(w);
     let wu = mul_by_omega_power(wc, n);
-    let wm = nil.sub(wu);
+    let wm = wu.neg();
     let p = parts(z, k);
     let q = parts(wm, k);
     let r = parts(w, k);

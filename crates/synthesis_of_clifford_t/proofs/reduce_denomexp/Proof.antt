@@ -1,7 +1,8 @@
 -- `synthesis_of_clifford_t::reduce_denomexp` meets its contract: the step where k is over 0, and no other.
 use Rattle.unitary.specs.Acts.{good-z, good-w}
 use Rattle.synthesis_of_clifford_t.specs.Code.{residue-few, power-fits, turned-z, turned-w, turned-n, turned-k}
-use Rattle.synthesis_of_clifford_t.specs.Code.{raised-z, raised-w, raised-over-0, raised-over-1, step-falls, step-stays}
+use Rattle.synthesis_of_clifford_t.specs.Code.{raised-z, raised-w, raised-over-0, raised-over-1}
+use Rattle.synthesis_of_clifford_t.specs.Code.{raised-even-z, raised-even-w, raised-both, step-falls, step-stays}
 use borrow.Author.Needs.{needs}
 use Rattle.synthesis_of_clifford_t.proofs.reduce_denomexp.Statement.{statement}
 use Rattle.synthesis_of_clifford_t.proofs.reduce_denomexp.Tie as tie
@@ -40,7 +41,9 @@ falls-requires : tie.Need-falls-requires
 falls-requires c κs = search residue-few
 
 halved-requires : tie.Need-halved-requires
-halved-requires c κs = search (raised-z, raised-w, raised-over-1)
+halved-requires c κs =
+    let the-power = c .before .before .before .before .before in
+    (search raised-z, (search raised-w, ((search needs, search raised-over-1), (search raised-even-z, search raised-even-w))))
 
 -- `search` enters 128 records of what is at hand; the first half of the path lies beyond them, and is named from `power` on
 returns-2 : tie.Need-returns-2
@@ -49,7 +52,9 @@ returns-2 c =
     search step-falls
 
 lowered-requires : tie.Need-lowered-requires
-lowered-requires c κs = search (raised-z, raised-w, raised-over-0)
+lowered-requires c κs =
+    let the-power = c .before .before .before .before .before in
+    (search raised-z, (search raised-w, (search raised-over-0, search raised-both)))
 
 returns-3 : tie.Need-returns-3
 returns-3 c =

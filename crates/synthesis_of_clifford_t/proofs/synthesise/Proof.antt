@@ -1,6 +1,6 @@
 -- `synthesis_of_clifford_t::synthesise` meets its contract: what the check refuses is refused, and the rest is reduced and answered.
 use denote.Ref.{now}
-use Rattle.unitary.specs.Checked.{taken-cast, taken-small}
+use Rattle.unitary.specs.Checked.{taken-cast, taken-small, taken-k}
 use Rattle.synthesis_of_clifford_t.specs.Answer.{synthesise-refused, reduced-good, synthesise-answered}
 use borrow.Author.Needs.{needs}
 use Rattle.synthesis_of_clifford_t.proofs.synthesise.Statement.{statement}
@@ -16,7 +16,10 @@ cast-t10 : tie.Need-cast-t10
 cast-t10 c = taken-cast (c .before .before .before .fits .k) (c .before .check .ensures) (search needs)
 
 reduce-denomexp-requires : tie.Need-reduce-denomexp-requires
-reduce-denomexp-requires c κs = taken-small (c .before .before .before .fits .k) (c .before .check .ensures) (search needs)
+reduce-denomexp-requires c κs =
+    let fits = c .before .before .before .fits .k in
+    let small = taken-small fits (c .before .check .ensures) (search needs) in
+    (small .0, (small .1, taken-k fits (c .before .check .ensures) (search needs)))
 
 answer-requires : tie.Need-answer-requires
 answer-requires c κs =

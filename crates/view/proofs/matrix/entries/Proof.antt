@@ -3,7 +3,6 @@ use mathlib.Core.Path.{subst, ap, _∙_}
 use Prim.Native.Nat.{_^_}
 use lib.Dec.{lit≤}
 use Rattle.exact.specs.Meaning.Number.{ints, mulQ, negQ, omega^}
-use Rattle.exact.specs.Algebra.Omega.{omegas-laws}
 use Rattle.exact.specs.Matrices.Sizes.{sized-le}
 use Rattle.ring.specs.Number.{quad}
 use Rattle.view.specs.Meaning.Outcome.{Entry}
@@ -29,21 +28,19 @@ mul-by-omega-power-requires-2 c κs =
     let d = c .before .before .before in
     small-conj (quad (d .args .w)) (quad (c .conj2 .result)) (2 ^ 60) (at-most-60 (d .pre .0) (w-size (d .pre .1))) (c .conj2 .ensures)
 
-sub-requires : tie.Need-sub-requires
-sub-requires c κs =
+neg-requires : tie.Need-neg-requires
+neg-requires c κs =
     let d = c .before .before .before .before in
     let y = quad (c .before .conj2 .result) in
-    let u = quad (c .mul-by-omega-power2 .result) in (
-      record { sized = record { a-small = lit≤ tt; b-small = lit≤ tt; c-small = lit≤ tt; d-small = lit≤ tt } },
-      record {
-        sized =
-            sized-le (lit≤ tt)
-            (coefficients u
-            (small-power y u (2 ^ 60)
-            (small-conj (quad (d .args .w)) y (2 ^ 60) (at-most-60 (d .pre .0) (w-size (d .pre .1))) (c .before .conj2 .ensures))
-            (d .args .n) (c .mul-by-omega-power2 .ensures)));
-      },
-    )
+    let u = quad (c .mul-by-omega-power2 .result) in
+    record {
+      sized =
+          sized-le (lit≤ tt)
+          (coefficients u
+          (small-power y u (2 ^ 60)
+          (small-conj (quad (d .args .w)) y (2 ^ 60) (at-most-60 (d .pre .0) (w-size (d .pre .1))) (c .before .conj2 .ensures))
+          (d .args .n) (c .mul-by-omega-power2 .ensures)));
+    }
 
 parts-requires : tie.Need-parts-requires
 parts-requires c κs =
@@ -58,10 +55,10 @@ parts-requires-2 c κs =
     let y = quad (b .before .before .conj2 .result) in
     let u = quad (b .before .mul-by-omega-power2 .result) in (
       d .pre .0,
-      small-neg u (quad (b .sub .result)) m
+      small-neg u (quad (b .neg .result)) m
           (small-power y u m (small-conj (quad (d .args .w)) y m (w-size (d .pre .1)) (b .before .before .conj2 .ensures)) (d .args .n)
           (b .before .mul-by-omega-power2 .ensures))
-          (b .sub .ensures ∙ omegas-laws .zero-add (negQ ints u)),
+          (b .neg .ensures),
     )
 
 parts-requires-3 : tie.Need-parts-requires-3
@@ -96,8 +93,7 @@ returns c =
       p = p .parts .ensures;
       q =
           subst (λ x. Entry k x (r .re) (r .im))
-          (b .sub .ensures
-          ∙ omegas-laws .zero-add (negQ ints (quad (b .before .mul-by-omega-power2 .result)))
+          (b .neg .ensures
           ∙ ap (negQ ints) (b .before .mul-by-omega-power2 .ensures ∙ ap (λ y. mulQ ints y u) (b .before .before .conj2 .ensures)))
           (c .before .before .parts2 .ensures);
       r = c .before .parts3 .ensures;
@@ -114,7 +110,7 @@ entries-spec =
     mul-by-omega-power-requires
     conj-requires-2
     mul-by-omega-power-requires-2
-    sub-requires
+    neg-requires
     parts-requires
     parts-requires-2
     parts-requires-3
