@@ -140,6 +140,12 @@ fn matrix(word: &[u8]) {
     black_box((out, place));
 }
 
+fn reduce((k, n, zw): &Triple) {
+    let mut out = [0i64; 10];
+    unsafe { c::dunrossel_reduce(*k, *n, zw.as_ptr(), out.as_mut_ptr()) };
+    black_box(out);
+}
+
 fn synthesise((k, n, zw): &Triple, lent: &Lent) {
     let ((buf, room), mut out) = (lent.part(), [0u64; 3]);
     unsafe { c::dunrossel_synthesise(*k, *n, zw.as_ptr(), buf, room, out.as_mut_ptr()) };
@@ -169,6 +175,16 @@ fn triples(random: &mut Random, k: i64, n: usize) -> Vec<Triple> {
         }
     }
     found
+}
+
+/// Triples at k = 60 that root two divides 60 times: 2^30 or -2^30 at each place, and nothing else.
+fn divisible() -> Vec<Triple> {
+    let one = |(i, x): (usize, i64)| {
+        let mut zw = [0; 8];
+        zw[i] = x << 30;
+        (60, i as u8, zw)
+    };
+    (0..8).flat_map(|i| [(i, 1), (i, -1)]).map(one).collect()
 }
 
 fn main() {
@@ -227,6 +243,21 @@ fn main() {
             |w| text(w),
             |w| {
                 black_box(DOmegaUnitary::from_gates(w));
+            },
+        )
+        .print();
+    }
+    let reduced = triples(&mut random, 60, 100);
+    for (name, inputs, turns) in [("60 times", divisible(), 300), ("not at all", reduced, 50)] {
+        race(
+            format!("reduce, k = 60, root two divides {name}"),
+            0.0,
+            &inputs,
+            turns,
+            reduce,
+            |(k, n, zw)| access::triple(*k, *n, zw),
+            |u| {
+                black_box(u.reduce_denomexp());
             },
         )
         .print();
