@@ -15,6 +15,7 @@ use Rattle.exact.specs.Meaning.Number.{Ω, ints, mulQ, root2}
 use Rattle.exact.specs.Meaning.Matrix.{Same}
 use Rattle.exact.specs.Meaning.Triple.{Triple, entries}
 use Rattle.exact.specs.Whole.Twos.{Zeros, TwoTo, less-often, orZ, or-fits, or-each, or-all}
+use Rattle.exact.specs.Algebra.Omega.{omegas-laws}
 use Rattle.exact.specs.Algebra.Over.{divides, over, over-times}
 use Rattle.exact.specs.Algebra.Twos.{Multiple, Shares, quotient-sized, twice-more}
 use Rattle.exact.specs.Matrices.Same.{Same-trans, Same-of}
@@ -85,50 +86,64 @@ module _ (m : ℕ) (t u : DOmegaUnitary) (d : Divided (m + m) (triple t) (triple
   pub halved-w : Small (t .w) → Small (u .w)
   halved-w x = record { sized = quotient-sized m (quad (t .w)) (quad (u .w)) (d .w-is) (2 ^ 31) (x .sized) }
 
--- s is the triple as it came
-module _ (s : Triple) (t u : DOmegaUnitary) (e : triple t ≡ modEight s) (m : ℕ) (h : Twos (triple t) m) (d : Divided (m + m) (triple t) (triple u)) where
-  u-same : Same (entries (triple u)) (entries s)
-  u-same = Same-trans (divided-same (m + m) (triple t) (triple u) d) (Same-of (ap entries e ∙ modEight-same s))
+-- ---- then root two, at most once
+pub data OnceMore (t r : Triple) : Type 0 where
+  stays : T (reducedTest t) → r ≡ t → OnceMore t r
+  falls : Divided 1 t r → OnceMore t r
+
+module _ (u : DOmegaUnitary) where
+  pub at-nought : u .k ≡ 0 → OnceMore (triple u) (triple u)
+  at-nought e = stays (rw e tt) refl
+
+  pub no-root : {b : Bool} → b ≡ bothTest (triple u) → b ≡ false → OnceMore (triple u) (triple u)
+  no-root {b} test stop = stays (go (u .k)) refl
+    where
+      go : (k : ℕ) → T (lowest k (divides (quad (u .z)) && divides (quad (u .w))))
+      go zero = tt
+      go (suc k) = rw (sym test ∙ stop) tt
+
+  pub one-root : (r : DOmegaUnitary) → Divided 1 (triple u) (triple r) → OnceMore (triple u) (triple r)
+  one-root r d = falls d
+
+-- s is the triple as it came; were there a root two left, there would be a two more
+module _ (s t u r : Triple) (e : t ≡ modEight s) (m : ℕ) (h : Twos t m) (d : Divided (m + m) t u) where
+  u-same : Same (entries u) (entries s)
+  u-same = Same-trans (divided-same (m + m) t u d) (Same-of (ap entries e ∙ modEight-same s))
 
   u-small : u .n < 8
   u-small = omega (arith, d .n-is, ap (λ v. v .n) e)
 
-  left : T (reducedTest (triple u)) → Answers (entries s) (triple u)
-  left test = record { same = u-same; reduced = test-reduced (triple u) test; n-small = u-small }
+  module _ (c : Divided 1 u r) where
+    twice : (y z : Ω) → mulQ ints (root2 ints) z ≡ y → T (divides z) → mulQ ints (root2 ints) (mulQ ints (root2 ints) (over z)) ≡ y
+    twice y z f i = ap (mulQ ints (root2 ints)) (over-times z i) ∙ f
 
-  -- k is 0
-  pub nothing-left : u .k ≡ 0 → Answers (entries s) (triple u)
-  nothing-left l = left (rw l tt)
+    clash : (k : ℕ) → r .k ≡ suc k → T (divides (r .z)) → T (divides (r .w)) → ⊥
+    clash k f i j =
+        h .no-more (omega (arith, d .k-is, c .k-is))
+        (twice-more m (t .z) (u .z) (d .z-is) (over (r .z)) (twice (u .z) (r .z) (c .z-is) i))
+        (twice-more m (t .w) (u .w) (d .w-is) (over (r .w)) (twice (u .w) (r .w) (c .w-is) j))
 
-  module _ {b : Bool} (test : b ≡ bothTest (triple u)) where
-    -- root two does not divide both
-    pub none-left : b ≡ false → Answers (entries s) (triple u)
-    none-left stop = left (go (u .k))
-      where
-        go : (k : ℕ) → T (lowest k (divides (quad (u .z)) && divides (quad (u .w))))
-        go zero = tt
-        go (suc k) = rw (sym test ∙ stop) tt
+    no-second : (k : ℕ) → r .k ≡ k → (p : Bool) → divides (r .z) ≡ p → (q : Bool) → divides (r .w) ≡ q → T (lowest k (p && q))
+    no-second zero f p i q j = tt
+    no-second (suc k) f false i q j = tt
+    no-second (suc k) f true i false j = tt
+    no-second (suc k) f true i true j = absurd (clash k f (rw i tt) (rw j tt))
 
-    -- it does, once
-    pub one-left : (r : DOmegaUnitary) → Divided 1 (triple u) (triple r) → Answers (entries s) (triple r)
-    one-left r c =
-        record {
-          same = Same-trans (divided-same 1 (triple u) (triple r) c) u-same;
-          reduced = test-reduced (triple r) (go (r .k) refl (divides (quad (r .z))) refl (divides (quad (r .w))) refl);
-          n-small = omega (arith, c .n-is, u-small);
-        }
-      where
-        twice : (y z : Ω) → mulQ ints (root2 ints) z ≡ y → T (divides z) → mulQ ints (root2 ints) (mulQ ints (root2 ints) (over z)) ≡ y
-        twice y z f i = ap (mulQ ints (root2 ints)) (over-times z i) ∙ f
+  all-off : OnceMore u r → Answers (entries s) r
+  all-off (stays test f) = rw f (record { same = u-same; reduced = test-reduced u test; n-small = u-small })
+  all-off (falls c) =
+      record {
+        same = Same-trans (divided-same 1 u r c) u-same;
+        reduced = test-reduced r (no-second c (r .k) refl (divides (r .z)) refl (divides (r .w)) refl);
+        n-small = omega (arith, c .n-is, u-small);
+      }
 
-        clash : (k : ℕ) → r .k ≡ suc k → T (divides (quad (r .z))) → T (divides (quad (r .w))) → ⊥
-        clash k f i j =
-            h .no-more (omega (arith, d .k-is, c .k-is))
-            (twice-more m (quad (t .z)) (quad (u .z)) (d .z-is) (over (quad (r .z))) (twice (quad (u .z)) (quad (r .z)) (c .z-is) i))
-            (twice-more m (quad (t .w)) (quad (u .w)) (d .w-is) (over (quad (r .w))) (twice (quad (u .w)) (quad (r .w)) (c .w-is) j))
+module _ (s : Triple) (t r : DOmegaUnitary) (e : triple t ≡ modEight s) (m : ℕ) (h : Twos (triple t) m) where
+  pub twos-off : (u : DOmegaUnitary) → Divided (m + m) (triple t) (triple u) → OnceMore (triple u) (triple r) → Answers (entries s) (triple r)
+  twos-off u d = all-off s (triple t) (triple u) (triple r) e m h d
 
-        go : (k : ℕ) → r .k ≡ k → (p : Bool) → divides (quad (r .z)) ≡ p → (q : Bool) → divides (quad (r .w)) ≡ q → T (lowest k (p && q))
-        go zero f p i q j = tt
-        go (suc k) f false i q j = tt
-        go (suc k) f true i false j = tt
-        go (suc k) f true i true j = absurd (clash k f (rw i tt) (rw j tt))
+  pub no-twos : m ≡ 0 → OnceMore (triple t) (triple r) → Answers (entries s) (triple r)
+  no-twos f = all-off s (triple t) (triple t) (triple r) e m h (rw f itself)
+    where
+      itself : Divided 0 (triple t) (triple t)
+      itself = record { k-is = omega arith; n-is = refl; z-is = omegas-laws .one-mul (quad (t .z)); w-is = omegas-laws .one-mul (quad (t .w)) }

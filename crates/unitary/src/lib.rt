@@ -20,7 +20,7 @@ ghost use Rattle.unitary.specs.Outcomes.{Answers, ReduceOutcome, stopped
 ghost use Rattle.unitary.specs.Checks.{Decides, UnitaryAt, CheckOutcome, bothTest};
 ghost use Rattle.unitary.specs.Letters.{Scanned};
 ghost use Rattle.unitary.specs.Acts.{Good, Acted, turnedBack};
-ghost use Rattle.unitary.specs.Reducing.{Twos};
+ghost use Rattle.unitary.specs.Reducing.{Twos, OnceMore};
 use ring::ZOmega;
 
 pub struct DOmegaUnitary {
@@ -234,6 +234,20 @@ impl DOmegaUnitary {
         if m > most { most } else { m }
     }
 
+    // Divided by root two once more, where that is allowed.
+    fn lowered_if(self) -> DOmegaUnitary
+        requires { ⌜ Small (self .z) ⌝ ∗ ⌜ Small (self .w) ⌝ }
+        ensures { λ r. ⌜ OnceMore (triple self) (triple r) ⌝ }
+    {
+        if self.k == 0 {
+            return self;
+        }
+        if self.divisible() {
+            return self.lowered();
+        }
+        self
+    }
+
     // The reduced triple of the same matrix, n from 0 to 7: the twos that z and w share at once, then root two at most once.
     pub fn reduce_denomexp(self) -> DOmegaUnitary
         requires { ⌜ Small (self .z) ⌝ ∗ ⌜ Small (self .w) ⌝ ∗ ⌜ self .k ≤ 61 ⌝ }
@@ -250,14 +264,11 @@ impl DOmegaUnitary {
             k: k,
         };
         let m = t.twos();
+        if m == 0 {
+            return t.lowered_if();
+        }
         let u = t.halved(m);
-        if u.k == 0 {
-            return u;
-        }
-        if u.divisible() {
-            return u.lowered();
-        }
-        u
+        u.lowered_if()
     }
 
     pub fn mul_by_t_from_left(self) -> DOmegaUnitary
