@@ -14,7 +14,8 @@ use mir.Facts.{toZ-ofZ}
 use Rattle.exact.specs.Whole.Linear.{int, difference}
 use Rattle.exact.specs.Whole.Machine.{held}
 use Rattle.clifford.specs.declared.Clifford.{Clifford}
-use Rattle.clifford.specs.Job6.{modulo, reduced, reduced-ranged, Ranged, Reduced}
+use Rattle.clifford.specs.Meaning.{modulo, reduced, Ranged}
+use Rattle.clifford.specs.Arguments.{reduced-ranged, Reduced}
 
 -- -1 - x
 abbrev flipped : ℤ → ℤ

@@ -6,7 +6,8 @@ ghost use Rattle.exact.specs.Meaning.Number.{ints, addQ, negQ, mulQ, omega′, 
 ghost use Rattle.exact.specs.Meaning.Number as Meaning;
 ghost use Rattle.exact.specs.Meaning.Triple.{squares, crosses};
 ghost use Rattle.exact.specs.Algebra.Over.{divides, over};
-ghost use Rattle.ring.specs.Number.{quad, Small, halves};
+ghost use Rattle.ring.specs.Meaning.{quad};
+ghost use Rattle.ring.specs.Number.{Small, halves};
 
 pub struct ZOmega {
     pub a: i64,

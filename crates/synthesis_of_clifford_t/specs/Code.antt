@@ -14,15 +14,15 @@ use Rattle.exact.specs.Algebra.Over.{divides}
 use Rattle.exact.specs.Matrices.Triples.{act}
 use Rattle.exact.specs.Matrices.Least.{lowered, modEight}
 use Rattle.exact.specs.Matrices.Sizes.{z-sized, w-sized, sized-le, add-sized, neg-sized, omega-sized}
-use Rattle.ring.specs.Number.{quad, Small}
+use Rattle.ring.specs.Meaning.{quad}
+use Rattle.ring.specs.Number.{Small}
 use Rattle.unitary.specs.declared.DOmegaUnitary.{DOmegaUnitary}
-use Rattle.unitary.specs.Triples.{triple}
+use Rattle.unitary.specs.Meaning.{triple}
 use Rattle.unitary.specs.Acts.{Good, Both, turnedBack, halved}
 use Rattle.synthesis_of_clifford_t.specs.declared.Reduction as declared
 use Rattle.synthesis_of_clifford_t.specs.declared.Reduction.the-variants as variants
 use Rattle.synthesis_of_clifford_t.specs.Residues.{back, powerBy, fallsBy, powerBy-few}
-use Rattle.synthesis_of_clifford_t.specs.Step.{Ready, Reduction, Ended, Stepped, reduction, power, falls, next}
-use Rattle.synthesis_of_clifford_t.specs.Step.{explicit, fallen, over-over, falls-once, next-falls, next-stays}
+use Rattle.synthesis_of_clifford_t.specs.Step.{Ready, Reduction, Ended, Stepped, reduction, power, falls, next, explicit, fallen, over-over, falls-once, next-falls, next-stays}
 use Rattle.synthesis_of_clifford_t.specs.Synthesised.{reduction-stepped}
 
 -- a reduction's answer as the definition has it

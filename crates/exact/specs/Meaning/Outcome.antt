@@ -1,5 +1,6 @@
 -- Outcomes, as document 01 has them: of the refusals in their order the first whose condition holds, at its place; where none holds, the answer.
 use mathlib.Core.Path.{_≡_}
+use mathlib.Core.Bool.{Bool, true, false}
 use Prim.Native.Nat.{ℕ}
 
 -- a refusal: its number, and where its condition holds
@@ -38,3 +39,8 @@ pub record HandsOn {R S : Type 0} (Job : R → Type 0) (f : R → S) (s : S) : T
   pub job : R
   pub outcome : Job job
   pub is : s ≡ f job
+
+-- a Boolean that says whether P holds
+pub record Decides (P : Type 0) (b : Bool) : Type 0 where
+  pub yes : b ≡ true → P
+  pub no : b ≡ false → P → ⊥
