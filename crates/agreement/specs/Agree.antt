@@ -11,53 +11,24 @@ use lib.Seq.{take-at}
 use Rattle.exact.specs.Meaning.Word.{Letter, bytes, Spelled}
 use Rattle.exact.specs.Meaning.Normal.{NormalOf}
 use Rattle.exact.specs.Meaning.Triple.{entries}
-use Rattle.exact.specs.Meaning.Limits.{enough, Accepted}
-use Rattle.exact.specs.Meaning.Outcome.{Refusal, Outcome, none, _then_, _also_, HandsOn}
+use Rattle.exact.specs.Meaning.Limits.{enough}
+use Rattle.exact.specs.Meaning.Outcome.{none, _then_, _also_, HandsOn, Decides}
 use Rattle.exact.specs.Meaning.Lent.{Lent, lent, over, untouched}
 use Rattle.exact.specs.Meaning.Refusals.{checks, room}
 use Rattle.exact.specs.Cases.Letters.{bytes-length}
 use Rattle.exact.specs.Outcomes.Ladder.{answered, always}
 use Rattle.exact.specs.Outcomes.Lent.{written-there}
-use Rattle.ring.specs.Number.{quad}
+use Rattle.ring.specs.Meaning.{quad}
 use Rattle.unitary.specs.declared.FromGates.{FromGates}
-use Rattle.unitary.specs.Triples.{triple}
-use Rattle.unitary.specs.Checks.{Decides}
-use Rattle.unitary.specs.Outcomes.{MatrixOutcome}
+use Rattle.unitary.specs.Meaning.{triple}
 use Rattle.normal_form.specs.declared.Written.{Written}
-use Rattle.normal_form.specs.Outcome as Job3
-use Rattle.normal_form.specs.Outcome.{Normalises, NormaliseOutcome, wordRefusals}
+use Rattle.normal_form.specs.Meaning as Job3
+use Rattle.normal_form.specs.Meaning.{Normalises, NormaliseOutcome, wordRefusals}
 use Rattle.synthesis_of_clifford_t.specs.declared.Synthesis.{Synthesis}
-use Rattle.synthesis_of_clifford_t.specs.Outcome as Job4
+use Rattle.synthesis_of_clifford_t.specs.Meaning as Job4
 use Rattle.agreement.specs.declared.Agreement.{Agreement}
-use Rattle.agreement.specs.Demand3.{Within, Agreed, Synthesises, taken-2, demand-3}
-
--- ---- the second way: job 2, and job 4 where it is accepted
--- a refusal of job 2, at its place
-abbrev pub earlier : FromGates → Refusal
-earlier m = record { number = m .refusal; At = λ p. (m .refusal ≡ Accepted → ⊥) × (p ≡ m .place) }
-
--- job 4's answer as job 3 hands one back
-abbrev pub handedOn : Lent Synthesis → Lent Written
-handedOn j = lent (record { refusal = j .handed .refusal; place = 0; bytes = j .handed .bytes; tees = j .handed .tees }) (j .buffer)
-
-abbrev pub Job4Of : FromGates → List ℕ → Lent Synthesis → Type 0
-Job4Of m old j = Synthesises m old (j .handed) (j .buffer)
-
-abbrev pub Second : FromGates → List ℕ → Written → List ℕ → Type 0
-Second m old r new = Outcome (untouched Job3.refused old) (HandsOn (Job4Of m old) handedOn) (earlier m then none) (lent r new)
-
--- both accepted, with the same bytes
-pub record Alike (first : Written) (new₁ : List ℕ) (second : Written) (new₂ : List ℕ) : Type 0 where
-  pub first-taken : first .refusal ≡ Accepted
-  pub second-taken : second .refusal ≡ Accepted
-  pub same-bytes : take (first .bytes) new₁ ≡ take (second .bytes) new₂
-
-pub record AgreeOutcome (bs old₁ old₂ : List ℕ) (r : Agreement) (new₁ new₂ : List ℕ) : Type 0 where
-  pub first-is : NormaliseOutcome bs old₁ (r .first) new₁
-  pub matrix : FromGates
-  pub matrix-is : MatrixOutcome bs matrix
-  pub second-is : Second matrix old₂ (r .second) new₂
-  pub yes-is : Decides (Alike (r .first) new₁ (r .second) new₂) (r .yes)
+use Rattle.agreement.specs.Meaning.{Within, Agreed, handedOn, earlier, Job4Of, Second, AgreeOutcome}
+use Rattle.agreement.specs.Demand3.{taken-2, demand-3}
 
 -- ---- under demand 3's conditions the answer is yes
 written : (v : List Letter) (old : List ℕ) → take (length v) (over (bytes v) old) ≡ bytes v

@@ -9,10 +9,10 @@ use lib.Dec.{le→leb}
 use lib.IntN.{pos}
 use lib.ListN.{length, drop}
 use Rattle.exact.specs.Meaning.Matrix.{Matrix, Same}
-use Rattle.exact.specs.Meaning.Word.{Letter, word, bytes, job2, job3, All, Spelled}
-use Rattle.exact.specs.Meaning.Normal.{Normal, NormalOf}
+use Rattle.exact.specs.Meaning.Word.{Letter, word, bytes, job2, job3, Spelled}
+use Rattle.exact.specs.Meaning.Normal.{NormalOf}
 use Rattle.exact.specs.Meaning.Triple.{entries, Unitary}
-use Rattle.exact.specs.Meaning.Endings.{Shallow, AllShallow, DeepAt}
+use Rattle.exact.specs.Meaning.Endings.{Shallow, DeepAt}
 use Rattle.exact.specs.Meaning.Limits.{longest, deepest, enough, Accepted}
 use Rattle.exact.specs.Meaning.Outcome.{none, _then_, _also_}
 use Rattle.exact.specs.Meaning.Lent.{Lent, lent, over, untouched, Writes}
@@ -26,35 +26,16 @@ use Rattle.exact.specs.Unique.Normal.{unique}
 use Rattle.exact.specs.Outcomes.Ladder.{answered}
 use Rattle.exact.specs.Outcomes.Places.{not-both}
 use Rattle.exact.specs.Outcomes.Checked.{Taken, taken-checks}
-use Rattle.ring.specs.Number.{quad}
+use Rattle.ring.specs.Meaning.{quad}
 use Rattle.unitary.specs.declared.FromGates.{FromGates}
-use Rattle.unitary.specs.Triples.{triple}
-use Rattle.unitary.specs.Outcomes.{Answers, stopped, Multiplies, MatrixOutcome}
+use Rattle.unitary.specs.Meaning.{triple, Answers, stopped, Multiplies, MatrixOutcome}
 use Rattle.normal_form.specs.declared.Written.{Written}
-use Rattle.normal_form.specs.Outcome as Job3
-use Rattle.normal_form.specs.Outcome.{Normalises, NormaliseOutcome, wordRefusals}
+use Rattle.normal_form.specs.Meaning as Job3
+use Rattle.normal_form.specs.Meaning.{Normalises, NormaliseOutcome, wordRefusals}
 use Rattle.synthesis_of_clifford_t.specs.declared.Synthesis.{Synthesis}
-use Rattle.synthesis_of_clifford_t.specs.Outcome as Job4
-use Rattle.synthesis_of_clifford_t.specs.Outcome.{SynthesiseOutcome}
+use Rattle.synthesis_of_clifford_t.specs.Meaning as Job4
 use Rattle.synthesis_of_clifford_t.specs.Synthesised.{word-enough}
-
--- ---- the words that demand 3 speaks of
-pub record Within (u : List Letter) : Type 0 where
-  pub plain : All job3 u
-  pub few : length u ≤ longest
-  pub shallow : AllShallow u
-
--- ---- what it promises: v is the answer of both ways
-pub record Agreed (u v : List Letter) (old₁ old₂ : List ℕ) (first : Lent Written) (matrix : FromGates) (second : Lent Synthesis) : Type 0 where
-  pub normal : Normal v
-  pub same : Same (word v) (word u)
-  pub first-is : first ≡ lent (Job3.counts v) (over (bytes v) old₁)
-  pub matrix-taken : matrix .refusal ≡ Accepted
-  pub second-is : second ≡ lent (Job4.counts v) (over (bytes v) old₂)
-
--- job 4 on the matrix that job 2 answers
-abbrev pub Synthesises : FromGates → List ℕ → Synthesis → List ℕ → Type 0
-Synthesises m old r new = SynthesiseOutcome (pos (m .matrix .k)) (m .matrix .n) (m .matrix .z) (m .matrix .w) old r new
+use Rattle.agreement.specs.Meaning.{Within, Agreed, Synthesises}
 
 -- the whole word is its first ending
 whole : (u : List Letter) → drop 0 u ≡ u

@@ -1,4 +1,5 @@
 -- Demand 3: normalising a word's letters and synthesising from its multiplied-out matrix agree.
+pub mod Meaning
 pub mod Demand3
 pub mod Agree
 pub mod Ways

@@ -4,19 +4,18 @@ use mathlib.Core.Bool.{Bool, true, false}
 use mathlib.Core.List.{List}
 use Prim.Native.Nat.{ℕ}
 use lib.IntN.{pos}
-use Rattle.exact.specs.Meaning.Outcome.{none, _then_, HandsOn}
+use Rattle.exact.specs.Meaning.Outcome.{none, _then_, HandsOn, Decides}
 use Rattle.exact.specs.Meaning.Lent.{lent, untouched}
 use Rattle.exact.specs.Outcomes.Ladder.{Only, one-outcome, one-handed}
 use Rattle.exact.specs.Outcomes.Lent.{handed-same, bytes-same}
 use Rattle.unitary.specs.declared.FromGates.{FromGates}
-use Rattle.unitary.specs.Checks.{Decides}
 use Rattle.unitary.specs.Unique.{matrix-unique}
 use Rattle.normal_form.specs.declared.Written.{Written}
-use Rattle.normal_form.specs.Outcome as Job3
+use Rattle.normal_form.specs.Meaning as Job3
 use Rattle.normal_form.specs.Theorems.{normalise-unique}
-use Rattle.synthesis_of_clifford_t.specs.Outcome.{synthesise-unique}
+use Rattle.synthesis_of_clifford_t.specs.Unique.{synthesise-unique}
 use Rattle.agreement.specs.declared.Agreement.{Agreement}
-use Rattle.agreement.specs.Agree.{earlier, handedOn, Job4Of, Second, Alike, AgreeOutcome}
+use Rattle.agreement.specs.Meaning.{earlier, handedOn, Job4Of, Second, Alike, AgreeOutcome}
 
 -- ---- the second way
 one-job4 : (m : FromGates) (old : List ℕ) → Only (Job4Of m old)

@@ -9,16 +9,16 @@ use lib.ListN.{take}
 use mir.Facts.{toZ-pos}
 use mir.Syntax.{w8, w64}
 use mir.Val.{Fits, toZ}
-use Rattle.exact.specs.Meaning.Outcome.{Rung}
+use Rattle.exact.specs.Meaning.Outcome.{Rung, Decides}
 use Rattle.exact.specs.Meaning.Limits.{Accepted}
 use Rattle.exact.specs.Meaning.Lent.{lent}
 use Rattle.exact.specs.Whole.Parity.{false-true}
 use Rattle.unitary.specs.declared.FromGates.{FromGates}
-use Rattle.unitary.specs.Checks.{Decides, refutes}
+use Rattle.unitary.specs.Checks.{refutes}
 use Rattle.normal_form.specs.declared.Written.{Written}
 use Rattle.synthesis_of_clifford_t.specs.declared.Synthesis.{Synthesis}
-use Rattle.synthesis_of_clifford_t.specs.Outcome.{SynthesiseOutcome}
-use Rattle.agreement.specs.Agree.{Second, Alike}
+use Rattle.synthesis_of_clifford_t.specs.Meaning.{SynthesiseOutcome}
+use Rattle.agreement.specs.Meaning.{Second, Alike}
 
 -- ---- the second way
 module _ (m : FromGates) (old : List ℕ) where

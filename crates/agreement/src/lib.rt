@@ -1,8 +1,8 @@
 // Demand 3 in running code: a word normalised, and its matrix synthesised.
 ghost use Prim.Native.Nat.{_≤_};
 ghost use lib.ListN.{length};
-ghost use Rattle.unitary.specs.Checks.{Decides};
-ghost use Rattle.agreement.specs.Agree.{Second, Alike, AgreeOutcome};
+ghost use Rattle.exact.specs.Meaning.Outcome.{Decides};
+ghost use Rattle.agreement.specs.Meaning.{Second, Alike, AgreeOutcome};
 use normal_form::Written;
 use unitary::FromGates;
 

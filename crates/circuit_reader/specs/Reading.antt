@@ -6,7 +6,10 @@ use mathlib.Core.List.{List, _∷_, _++_}
 use Prim.Native.Nat.{ℕ, _+_, _<_, _≤_}
 use lib.Dec.{T}
 use lib.ListN.{length, take, drop, getD}
-use Rattle.exact.specs.Meaning.Text.{ascii, Stops}
+use Rattle.exact.specs.Meaning.Limits as Limits
+use Rattle.exact.specs.Meaning.Outcome.{Says}
+use Rattle.exact.specs.Meaning.Refusals.{statement}
+use Rattle.exact.specs.Meaning.Text.{ascii}
 use Rattle.circuit_reader.specs.declared.Walked.{Walked}
 use Rattle.circuit_reader.specs.declared.Walked.the-variants as Walked
 use Rattle.circuit_reader.specs.declared.Line.{Line}
@@ -89,6 +92,14 @@ pub record Headed (s : List ℕ) (start : ℕ) (phase : Bool) : Type 0 where
   pub start-is : start ≡ length (header edition)
   pub there : s ≡ header edition ++ drop start s
 
+-- each case by its refusal and place
+abbrev pub refusalOf : Walked → ℕ × ℕ
+refusalOf (Walked.Stopped p) = (Limits.Statement, p)
+refusalOf (Walked.Circuit start n) = (Limits.Accepted, 0)
+
+abbrev pub CircuitIs : List ℕ → Walked → Type 0
+CircuitIs s (Walked.Stopped p) = ⊥
+CircuitIs s (Walked.Circuit start n) = OfCircuit s start n
+
 abbrev pub WalkIs : List ℕ → Walked → Type 0
-WalkIs s (Walked.Stopped p) = Stops Right s p
-WalkIs s (Walked.Circuit start n) = OfCircuit s start n
+WalkIs s r = Says (refusalOf r) (statement Right s) (CircuitIs s r)

@@ -5,7 +5,10 @@ use mathlib.Core.List.{List}
 use Prim.Native.Nat.{ℕ, _+_, _-_, _<_, _≤_}
 use lib.Dec.{eqb, ltb}
 use lib.ListN.{length, getD}
-use Rattle.exact.specs.Meaning.Word.{Letter, W, byte, bytes, job2, In, FirstOutside}
+use Rattle.exact.specs.Meaning.Word.{Letter, W, byte, bytes, job2, In}
+use Rattle.exact.specs.Meaning.Limits as Limits
+use Rattle.exact.specs.Meaning.Outcome.{Says}
+use Rattle.exact.specs.Meaning.Refusals as Refusals
 use Rattle.exact.specs.Cases.Letters.{letterOf, lettersOf}
 use Rattle.exact.specs.Outcomes.Lent as Outcomes
 use Rattle.circuit_writer.specs.declared.Measured as Measured
@@ -45,6 +48,14 @@ pub record PhaseIs (w : List ℕ) (p : ℕ) : Type 0 where
 abbrev pub pastPhase : ℕ → ℕ → ℕ → ℕ
 pastPhase p i b = cond (ltb p i) p (cond (eqb b 87) i (i + 1))
 
+-- each case by its refusal and place
+abbrev pub refusalOf : Measured.Measured → ℕ × ℕ
+refusalOf (Outside p) = (Limits.Letter, p)
+refusalOf (Word n p) = (Limits.Accepted, 0)
+
+abbrev pub WordIs : List ℕ → Measured.Measured → Type 0
+WordIs w (Outside p) = ⊥
+WordIs w (Word n p) = Measures w n × PhaseIs w p
+
 abbrev pub MeasureIs : List ℕ → Measured.Measured → Type 0
-MeasureIs w (Outside p) = FirstOutside job2 w p
-MeasureIs w (Word n p) = Measures w n × PhaseIs w p
+MeasureIs w r = Says (refusalOf r) (Refusals.letter job2 w) (WordIs w r)

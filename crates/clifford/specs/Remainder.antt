@@ -14,7 +14,8 @@ use mir.Facts.{toZ-ofZ}
 use Rattle.exact.specs.Whole.Machine.{held}
 use Rattle.exact.specs.Whole.Flipped.{flipped, flip-fits, flip-held}
 use Rattle.clifford.specs.declared.Clifford.{Clifford}
-use Rattle.clifford.specs.Job6.{modulo, reduced, reduced-ranged, Ranged, Reduced}
+use Rattle.clifford.specs.Meaning.{modulo, reduced, Ranged}
+use Rattle.clifford.specs.Arguments.{reduced-ranged, Reduced}
 
 remainder-few : (n m : ℕ) → 0 < m → n % m ≤ m - 1
 remainder-few n m h = let l : n % m < m = mod-lt n h in omega arith

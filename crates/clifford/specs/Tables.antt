@@ -16,7 +16,7 @@ use Rattle.clifford.specs.declared.Axis.the-variants as Axis
 use Rattle.clifford.specs.declared.Clifford.{Clifford}
 use Rattle.clifford.specs.declared.Conj2.{Conj2}
 use Rattle.clifford.specs.declared.Tconj.{Tconj}
-use Rattle.clifford.specs.Job6.{letters, axisWord, Ranged}
+use Rattle.clifford.specs.Meaning.{letters, axisWord, Ranged}
 use Rattle.clifford.specs.Words.{_≈_, by-test}
 
 abbrev pub quadruple : ℕ → ℕ → ℕ → ℕ → Clifford

@@ -1,7 +1,8 @@
 // Job 6: Cliffords. (a,b,c,d) is E^a X^b S^c omega^d; product, inverse, coset split and the passing of a T, by the four tables.
 ghost use mathlib.Core.Path.{_≡_};
 ghost use Prim.Native.Nat.{_≤_, _<_};
-ghost use Rattle.clifford.specs.Job6.{Ranged, Reduced, reduced, modulo, Product, Inverse, Split};
+ghost use Rattle.clifford.specs.Meaning.{Ranged, reduced, modulo, Product, Inverse, Split};
+ghost use Rattle.clifford.specs.Arguments.{Reduced};
 ghost use Rattle.clifford.specs.Tables.{Row2, Row3, RowInv, RowT};
 ghost use Rattle.clifford.specs.Cliffords.{reduce, mulC, invC, splitC, tconjC};
 

@@ -14,23 +14,22 @@ use Rattle.exact.specs.Whole.Machine.{held}
 use Rattle.ring.specs.declared.ZOmega.{ZOmega}
 use Rattle.unitary.specs.declared.Checked.{Checked}
 use Rattle.unitary.specs.declared.FromGates.{FromGates}
-use Rattle.unitary.specs.Outcomes.{ReduceOutcome, MatrixOutcome}
+use Rattle.unitary.specs.Meaning.{ReduceOutcome, MatrixOutcome}
 use Rattle.normal_form.specs.declared.Written.{Written}
-use Rattle.normal_form.specs.Outcome.{WordOutcome}
-use Rattle.clifford.specs.Job6.{reduced, Product, Inverse, Split}
+use Rattle.normal_form.specs.Meaning.{WordOutcome}
+use Rattle.clifford.specs.Meaning.{reduced, Product, Inverse, Split}
 use Rattle.clifford.specs.declared.Clifford.{Clifford}
 use Rattle.clifford.specs.declared.Coset.{Coset}
 use Rattle.synthesis_of_clifford_t.specs.declared.Synthesis.{Synthesis}
-use Rattle.synthesis_of_clifford_t.specs.Outcome.{SynthesiseOutcome}
+use Rattle.synthesis_of_clifford_t.specs.Meaning.{SynthesiseOutcome}
 use Rattle.circuit.specs.Meaning.{Edition}
-use Rattle.qasm.specs.Outcome.{WriteOutcome, ReadOutcome}
+use Rattle.qasm.specs.Meaning.{WriteOutcome, ReadOutcome}
 use Rattle.qasm.specs.declared.Written.{Written as Converted}
 use Rattle.view.specs.declared.Answer.{Answer}
 use Rattle.view.specs.Meaning.Outcome.{ViewOutcome}
 use Rattle.handed.specs.declared.Four.{Four}
-use Rattle.dunrossel.specs.Exports.{Reduces, Multiplies, Views, Writes, Synthesises, Converts}
-use Rattle.dunrossel.specs.Exports.{argument, Multiplied, Inverted, Parted}
-use Rattle.handed.specs.Arrays.{zOf, wOf, ten, eightOf, counts, countsOf, countsIn, fourOf, fiveOf, listed}
+use Rattle.dunrossel.specs.Meaning.Exports.{Reduces, Multiplies, Views, Writes, Synthesises, Converts, argument, Multiplied, Inverted, Parted}
+use Rattle.handed.specs.Meaning.{zOf, wOf, ten, eightOf, counts, countsOf, countsIn, fourOf, fiveOf, listed}
 use Rattle.handed.specs.Numbers.{held-small}
 
 -- ---- triples: what was said of the numbers read back is said of those handed in

@@ -1,6 +1,5 @@
--- What each export promises, over the promises of the jobs (`Exports`, `Bench`), and what its proof leans on.
-pub mod Exports
+-- What each export promises, over the promises of the jobs (`Meaning`), and what its proof leans on.
+pub mod Meaning
 pub mod Handed
-pub mod Bench
 pub mod Record
 pub mod Unique

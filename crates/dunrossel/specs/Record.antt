@@ -28,13 +28,13 @@ use Rattle.ring.specs.declared.ZOmega.{ZOmega}
 use Rattle.unitary.specs.Triples.{number}
 use Rattle.unitary.specs.Checks.{exponent-size}
 use Rattle.synthesis_of_clifford_t.specs.declared.Synthesis.{Synthesis}
-use Rattle.synthesis_of_clifford_t.specs.Outcome as Job4
-use Rattle.synthesis_of_clifford_t.specs.Outcome.{SynthesiseOutcome}
+use Rattle.synthesis_of_clifford_t.specs.Meaning as Job4
+use Rattle.synthesis_of_clifford_t.specs.Meaning.{SynthesiseOutcome}
 use Rattle.synthesis_of_clifford_t.specs.Synthesised.{reduce-ready}
 use Rattle.synthesis_of_clifford_t.specs.Counts.{answer-enough}
 use Rattle.record.specs.declared.Record.{Record}
 use Rattle.record.specs.Meaning.{numbers, ReadOutcome, WriteOutcome}
-use Rattle.dunrossel.specs.Bench.{printed, refused, wordText, wordSize, asked, NumbersOutcome, OfRecord, BenchOutcome}
+use Rattle.dunrossel.specs.Meaning.Bench.{printed, refused, wordText, wordSize, asked, NumbersOutcome, OfRecord, BenchOutcome}
 use Rattle.handed.specs.Numbers.{held-is}
 
 -- job 4 on a record's numbers

@@ -1,19 +1,32 @@
--- Two outcomes that an export allows for one input are equal: its number, its results and its lent bytes, by its job's own theorem. Assumes nothing.
+-- Two outcomes that an export allows for one input are equal: its number, its results and its lent bytes, by its job's own theorem; and so are two
+-- answers of the bench program. Assumes nothing.
+use mathlib.Core.Path.{_≡_, subst}
 use mathlib.Core.List.{List}
 use Prim.Native.Nat.{ℕ}
 use lib.IntN.{ℤ}
 use Rattle.exact.specs.Meaning.Word.{Letter}
-use Rattle.exact.specs.Outcomes.Ladder.{Only, one-handed}
+use Rattle.exact.specs.Meaning.Normal.{NormalOf}
+use Rattle.exact.specs.Meaning.Outcome.{none, _then_}
+use Rattle.exact.specs.Meaning.Lent as Lent
+use Rattle.exact.specs.Meaning.Lent.{lent}
+use Rattle.exact.specs.Meaning.Refusals.{checks, malformed}
+use Rattle.exact.specs.Meaning.Record.{Numbers}
+use Rattle.exact.specs.Outcomes.Ladder.{Only, one-outcome, one-handed}
+use Rattle.exact.specs.Outcomes.Places.{one-plain, one-normal}
+use Rattle.exact.specs.Outcomes.Checked.{checks-one}
+use Rattle.exact.specs.Outcomes.Lent.{one-written}
+use Rattle.record.specs.RecordLaws.{record-once}
+use Rattle.dunrossel.specs.Meaning.Bench.{refused, wordText, wordSize, asked, NumbersOutcome, OfRecord, BenchOutcome}
 use Rattle.unitary.specs.Unique.{reduce-unique, matrix-unique}
-use Rattle.normal_form.specs.Outcome.{outcome-unique}
-use Rattle.clifford.specs.Job6.{Product-unique, Inverse-unique, Split-unique}
-use Rattle.synthesis_of_clifford_t.specs.Outcome.{synthesise-unique}
+use Rattle.normal_form.specs.Unique.{outcome-unique}
+use Rattle.clifford.specs.Unique.{Product-unique, Inverse-unique, Split-unique}
+use Rattle.synthesis_of_clifford_t.specs.Unique.{synthesise-unique}
 use Rattle.circuit.specs.Meaning.{Edition}
-use Rattle.qasm.specs.Outcome.{WriteOutcome, ReadOutcome}
+use Rattle.qasm.specs.Meaning.{WriteOutcome, ReadOutcome}
 use Rattle.qasm.specs.Unique.{write-unique, read-unique}
 use Rattle.view.specs.Unique.{view-unique}
-use Rattle.dunrossel.specs.Exports.{Reduces, Multiplies, Views, Writes, Synthesises, Converts, argument, Multiplied, Inverted, Parted}
-use Rattle.handed.specs.Arrays.{zOf, wOf}
+use Rattle.dunrossel.specs.Meaning.Exports.{Reduces, Multiplies, Views, Writes, Synthesises, Converts, argument, Multiplied, Inverted, Parted}
+use Rattle.handed.specs.Meaning.{zOf, wOf}
 
 pub reduces-unique : (k : ℤ) (n : ℕ) (zw : List ℤ) → Only (Reduces k n zw)
 reduces-unique k n zw = one-handed _ _ (reduce-unique k n (zOf zw) (wOf zw))
@@ -45,3 +58,20 @@ inverted-unique x = one-handed _ _ (Inverse-unique (argument x))
 
 pub parted-unique : (x : List ℤ) → Only (Parted x)
 parted-unique x = one-handed _ _ (Split-unique (argument x))
+
+-- ---- the bench program
+one-numbers : (x : Numbers) (old : List ℕ) → Only (NumbersOutcome x old)
+one-numbers x old =
+    one-outcome (refused old) (Lent.Writes wordText wordSize (NormalOf (asked x)) old) (checks (x .k) (x .z) (x .w)) (checks-one (x .k) (x .z) (x .w))
+    (λ h. one-written wordText wordSize (NormalOf (asked x)) old (one-normal (asked x)))
+
+one-record : (s old : List ℕ) → Only (OfRecord s old)
+one-record s old r t x y =
+    one-numbers (y .numbers) old r t
+    (subst (λ (n : Numbers). NumbersOutcome n old r) (record-once s (x .numbers) (y .numbers) (x .right) (y .right)) (x .outcome)) (y .outcome)
+
+module _ (s old : List ℕ) (size : ℕ) (new : List ℕ) (size′ : ℕ) (new′ : List ℕ) where
+  pub bench-unique : BenchOutcome s old size new → BenchOutcome s old size′ new′ → lent size new ≡ lent size′ new′
+  bench-unique =
+      one-outcome (refused old) (OfRecord s old) (malformed s then none) (one-plain, tt) (λ h. one-record s old) (lent size new)
+      (lent size′ new′)

@@ -1,3 +1,3 @@
 -- Arrays of numbers: what they stand for, and bytes in them as they are read back.
-pub mod Arrays
+pub mod Meaning
 pub mod Numbers

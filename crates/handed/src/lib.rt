@@ -1,7 +1,7 @@
 // What the exports are handed and hand back: numbers taken from arrays, and answers put into them.
 ghost use mathlib.Core.Path.{_≡_};
-ghost use Rattle.clifford.specs.Job6.{axisNumber};
-ghost use Rattle.handed.specs.Arrays.{zOf, wOf, ten, eightOf, counts, countsOf, countsIn, fourOf, fiveOf, listed};
+ghost use Rattle.clifford.specs.Meaning.{axisNumber};
+ghost use Rattle.handed.specs.Meaning.{zOf, wOf, ten, eightOf, counts, countsOf, countsIn, fourOf, fiveOf, listed};
 ghost use Rattle.handed.specs.Numbers.{Wide};
 use clifford::Axis;
 use clifford::Clifford;

@@ -29,8 +29,8 @@ use Rattle.writing.specs.Put.{Put, put-more}
 use Rattle.writing.specs.Endings.{endWord, endSize, endingOf, Ended, end-length, end-tees, end-whole, textOf, text-less}
 use Rattle.writing.specs.Codes.{codesWord, held-word, bytes-append}
 use Rattle.normal_form.specs.declared.Written.{Written}
-use Rattle.normal_form.specs.Outcome.{Normalises, Shortens, normalises-single, shortens-single, refused, counts}
-use Rattle.normal_form.specs.Outcome.{WordOutcome}
+use Rattle.normal_form.specs.Meaning.{Normalises, Shortens, refused, counts, WordOutcome}
+use Rattle.normal_form.specs.Unique.{normalises-single, shortens-single}
 use Rattle.normal_form.specs.Ways.{RoomOutcome, outside-at, no-room, written-whole, answered-with}
 
 -- ---- the answers of job 3, with the final W letters, and of job 5, without

@@ -1,5 +1,6 @@
--- What jobs 3 and 5 promise, and the proofs of it.
-pub mod Outcome
+-- What jobs 3 and 5 promise (`Meaning`), and the proofs of it.
+pub mod Meaning
+pub mod Unique
 pub mod Ways
 pub mod Answers
 pub mod Theorems

@@ -15,7 +15,7 @@ use Rattle.exact.specs.Outcomes.Ladder.{only-refused}
 use Rattle.exact.specs.Outcomes.Places.{one-plain, one-letter}
 use Rattle.exact.specs.Outcomes.Lent.{handed-same}
 use Rattle.normal_form.specs.declared.Written.{Written}
-use Rattle.normal_form.specs.Outcome.{refused, counts, WordOutcome}
+use Rattle.normal_form.specs.Meaning.{refused, counts, WordOutcome}
 
 -- ---- where the condition of a word's refusal holds, and none before it, nothing but that refusal is allowed
 module _ (Answer : List Gate → List Gate → Type 0) (w old : List ℕ) (r : Written) (new : List ℕ) where

@@ -21,8 +21,8 @@ use Rattle.exact.specs.Cases.NormalTest.{normalTest, normal-by}
 use Rattle.exact.specs.Cases.Table.{Row, Each, cases, Normalised, all-cases}
 use Rattle.exact.specs.Outcomes.Lent.{handed-same, bytes-same}
 use Rattle.normal_form.specs.declared.Written.{Written}
-use Rattle.normal_form.specs.Outcome.{Normalises, Shortens, normalises-single, shortens-single, refused, counts}
-use Rattle.normal_form.specs.Outcome.{wordRefusals, WordOutcome, NormaliseOutcome, PhaseFreeOutcome, outcome-unique}
+use Rattle.normal_form.specs.Meaning.{Normalises, Shortens, refused, counts, wordRefusals, WordOutcome, NormaliseOutcome, PhaseFreeOutcome}
+use Rattle.normal_form.specs.Unique.{normalises-single, shortens-single, outcome-unique}
 use Rattle.normal_form.specs.Ways.{RoomOutcome, no-room, written-whole, answered-with}
 use Rattle.reading.specs.Readings.{start, run}
 use Rattle.writing.specs.Endings.{textOf}

@@ -13,7 +13,7 @@ use Rattle.exact.specs.Outcomes.Places.{one-spelled}
 use Rattle.exact.specs.Outcomes.Lent as Lent
 use Rattle.exact.specs.Outcomes.Lent.{written-as}
 use Rattle.normal_form.specs.declared.Written.{Written}
-use Rattle.normal_form.specs.Outcome.{refused, counts, WordOutcome}
+use Rattle.normal_form.specs.Meaning.{refused, counts, WordOutcome}
 
 -- by a refusal the lent bytes stay
 stays : {r : Written} {n p : ℕ} (old : List ℕ) → r ≡ refused n p → lent r old ≡ untouched refused old n p

@@ -4,7 +4,7 @@ ghost use Prim.Native.Nat.{_≤_};
 ghost use lib.ListN.{length};
 ghost use Rattle.reading.specs.Held.{Blank, Readable};
 ghost use Rattle.reading.specs.Steps.{Right};
-ghost use Rattle.normal_form.specs.Outcome.{refused, WordOutcome, NormaliseOutcome, PhaseFreeOutcome};
+ghost use Rattle.normal_form.specs.Meaning.{refused, WordOutcome, NormaliseOutcome, PhaseFreeOutcome};
 ghost use Rattle.normal_form.specs.Answers.{Answers, WritesReading};
 use reading::EMPTY;
 use reading::Read;

@@ -1,5 +1,5 @@
--- OpenQASM written and read: Outcome is what is promised, the others are for proofs, and what follows.
-pub mod Outcome
+-- OpenQASM written and read: Meaning is what is promised, the others are for proofs, and what follows.
+pub mod Meaning
 pub mod WriterWays
 pub mod ReaderWays
 pub mod Unique

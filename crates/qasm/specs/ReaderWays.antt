@@ -14,9 +14,8 @@ use Rattle.exact.specs.Outcomes.Lent as Lent
 use Rattle.qasm.specs.declared.Written.{Written}
 use Rattle.circuit_reader.specs.declared.Walked.{Walked}
 use Rattle.circuit_reader.specs.declared.Walked.the-variants as Walked
-use Rattle.circuit.specs.Meaning.{Right, letters}
-use Rattle.qasm.specs.Outcome.{refused, accepted, ReadOutcome}
-use Rattle.circuit.specs.Meaning.{Reads}
+use Rattle.circuit.specs.Meaning.{Right, letters, Reads}
+use Rattle.qasm.specs.Meaning.{refused, accepted, ReadOutcome}
 use Rattle.circuit.specs.Lines.{one-reading, OfCircuit}
 use Rattle.circuit_reader.specs.Reading.{WalkIs}
 use Rattle.circuit_letters.specs.Letters.{PutsLetters}

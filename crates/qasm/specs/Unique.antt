@@ -8,9 +8,8 @@ use Rattle.exact.specs.Outcomes.Ladder.{OnePlace, one-outcome}
 use Rattle.exact.specs.Outcomes.Places.{one-plain, one-letter, one-first, one-stop, one-spelled}
 use Rattle.exact.specs.Outcomes.Lent.{one-written}
 use Rattle.qasm.specs.declared.Written.{Written}
-use Rattle.circuit.specs.Meaning.{Edition, two, three, text}
-use Rattle.qasm.specs.Outcome.{refused, accepted, Circuits, writeRefusals, WriteOutcome, readRefusals, ReadOutcome}
-use Rattle.circuit.specs.Meaning.{Reads}
+use Rattle.circuit.specs.Meaning.{Edition, two, three, text, Reads}
+use Rattle.qasm.specs.Meaning.{refused, accepted, Circuits, writeRefusals, WriteOutcome, readRefusals, ReadOutcome}
 use Rattle.circuit.specs.Lines.{one-reading}
 
 one-place : (e : Edition) (w old : List ℕ) → OnePlace (writeRefusals e w old)

@@ -18,7 +18,7 @@ use Rattle.exact.specs.Outcomes.Places.{one-stop}
 use Rattle.exact.specs.Outcomes.Lent.{handed-same, bytes-same}
 use Rattle.circuit.specs.Meaning.{Edition, two, three, row, Statement, h′, t′, sdg, tdg, AllAllowed, text, Right, letters, circuit, Reads}
 use Rattle.qasm.specs.declared.Written.{Written}
-use Rattle.qasm.specs.Outcome.{refused, accepted, Circuits, writeRefusals, WriteOutcome, ReadOutcome}
+use Rattle.qasm.specs.Meaning.{refused, accepted, Circuits, writeRefusals, WriteOutcome, ReadOutcome}
 use Rattle.qasm.specs.RoundTrip.{only-read, written}
 
 -- ---- the reader: a place of 9 that is one late, or any other, at every text that is not right

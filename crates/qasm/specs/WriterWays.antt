@@ -20,7 +20,7 @@ use Rattle.qasm.specs.declared.Edition.the-variants.{Two, Three}
 use Rattle.circuit_writer.specs.declared.Measured.{Measured}
 use Rattle.circuit_writer.specs.declared.Measured.the-variants.{Outside, Word}
 use Rattle.circuit.specs.Meaning.{Edition, two, three, header, lines, text, circuit}
-use Rattle.qasm.specs.Outcome.{refused, accepted, editionOf, Circuits, WriteOutcome}
+use Rattle.qasm.specs.Meaning.{refused, accepted, editionOf, Circuits, WriteOutcome}
 use Rattle.circuit_writer.specs.Writing.{Spells, Measures, PhaseIs, MeasureIs}
 use Rattle.circuit_writer.specs.WritingLaws.{size-most, lettersOf-length}
 

@@ -4,7 +4,7 @@ use circuit_writer::Measured;
 ghost use mathlib.Core.Path.{_≡_};
 ghost use Prim.Native.Nat.{_≤_};
 ghost use lib.ListN.{length};
-ghost use Rattle.qasm.specs.Outcome.{refused, editionOf, WriteOutcome, ReadOutcome};
+ghost use Rattle.qasm.specs.Meaning.{refused, editionOf, WriteOutcome, ReadOutcome};
 ghost use Rattle.circuit_writer.specs.Writing.{Measures, PhaseIs};
 ghost use Rattle.qasm.specs.WriterWays.{PutsCircuit};
 ghost use Rattle.circuit.specs.Lines.{OfCircuit};

@@ -11,8 +11,7 @@ use native.Mathlib.Omega.{arith}
 use borrow.Author.Tests.{eqb-true, eqb-false}
 use lib.Dec.{eqb}
 use lib.ListN.{length, take, set, getD, replicate, length-append, length-take}
-use lib.Seq.{length-take-le, take-set-le, take-suc-set, take-take, take-append-seam, getD-take, getD-append-seam}
-use lib.Seq.{getD-set-same, getD-set-other}
+use lib.Seq.{length-take-le, take-set-le, take-suc-set, take-take, take-append-seam, getD-take, getD-append-seam, getD-set-same, getD-set-other}
 use Rattle.exact.specs.Meaning.Word.{Letter}
 use Rattle.exact.specs.Meaning.Normal as normal
 use Rattle.exact.specs.Cases.Letters.{lettersOf}
@@ -22,7 +21,7 @@ use Rattle.clifford.specs.declared.Clifford.{Clifford}
 use Rattle.reading.specs.declared.Reading.{Reading}
 use Rattle.reading.specs.declared.steps.Step.{Step}
 use Rattle.reading.specs.declared.steps.Tail.{Tail}
-use Rattle.clifford.specs.Job6.{Ranged}
+use Rattle.clifford.specs.Meaning.{Ranged}
 use Rattle.clifford.specs.Cliffords.{mulC}
 use Rattle.reading.specs.Readings.{State, state, prefix, prefix-length, start, tee, read, run, run-size, size, sizeOf}
 use Rattle.reading.specs.Pairs.{kind₂, next₂, kind-few, after, two}

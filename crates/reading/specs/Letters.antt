@@ -8,6 +8,9 @@ use lib.Dec.{T, eqb}
 use lib.ListN.{length, getD}
 use borrow.Author.Tests.{eqb-true, eqb-false}
 use Rattle.exact.specs.Meaning.Word.{Letter, I, H, S, X, W, T′, byte, bytes, job3, In, FirstOutside}
+use Rattle.exact.specs.Meaning.Limits as Limits
+use Rattle.exact.specs.Meaning.Outcome.{Says}
+use Rattle.exact.specs.Meaning.Refusals.{letter}
 use Rattle.exact.specs.Cases.Letters.{letterOf, letterOf-byte, lettersOf}
 use Rattle.reading.specs.declared.Read.{Read}
 use Rattle.reading.specs.declared.Read.the-variants as Read
@@ -64,9 +67,17 @@ numbered-out b n e h = unknown-out b (number-unknown (letterOf b) (omega (arith,
 abbrev pub Inside : List ℕ → ℕ → Type 0
 Inside w n = (i : ℕ) → i < n → In job3 (getD w i 0)
 
+-- each case by its refusal and place
+abbrev pub refusalOf : Read → ℕ × ℕ
+refusalOf (Read.Word r) = (Limits.Accepted, 0)
+refusalOf (Read.Outside p) = (Limits.Letter, p)
+
+abbrev pub ReadAs : List ℕ → List ℕ → Read → Type 0
+ReadAs w items (Read.Word r) = Inside w (length w) × Holds items r (run start (lettersOf w))
+ReadAs w items (Read.Outside p) = ⊥
+
 abbrev pub Reads : List ℕ → List ℕ → Read → Type 0
-Reads w items (Read.Word r) = Inside w (length w) × Holds items r (run start (lettersOf w))
-Reads w items (Read.Outside p) = FirstOutside job3 w p
+Reads w items r = Says (refusalOf r) (letter job3 w) (ReadAs w items r)
 
 pub inside-none : (w : List ℕ) → Inside w 0
 inside-none w = λ i h. absurd (omega arith)

@@ -11,11 +11,11 @@ use Rattle.exact.specs.Meaning.Normal.{Syllable, HT, SHT}
 use Rattle.clifford.specs.declared.Axis.{Axis}
 use Rattle.clifford.specs.declared.Axis.the-variants as Axis
 use Rattle.clifford.specs.declared.Clifford.{Clifford}
-use Rattle.clifford.specs.Job6.{letters, Ranged, axisNumber, axis-at, one-Clifford}
+use Rattle.clifford.specs.Meaning.{letters, Ranged, axisNumber}
+use Rattle.clifford.specs.Unique.{axis-at, one-Clifford}
 use Rattle.clifford.specs.Words.{_≈_, by-eq, by-sym, _⨾_, under, before}
 use Rattle.clifford.specs.Tables.{quadruple, all, at, all3, at3}
-use Rattle.clifford.specs.Cliffords.{mulC, mul-ranged, tconjC, tconj-ranged, H-ranged}
-use Rattle.clifford.specs.Cliffords.{cliffordX, cliffordS, cliffordW, cliffordH, cliffordHS, cliffordSHS}
+use Rattle.clifford.specs.Cliffords.{mulC, mul-ranged, tconjC, tconj-ranged, H-ranged, cliffordX, cliffordS, cliffordW, cliffordH, cliffordHS, cliffordSHS}
 use Rattle.reading.specs.Readings.{State, state, tee, read, times-Clifford, X-ranged, W-ranged, S-ranged, HS-ranged, SHS-ranged}
 
 -- ---- one letter: 0 where the syllables stay, 1 where a T meets the last of them, 2 where HT is added and 3 where SHT is

@@ -8,8 +8,7 @@ use native.Mathlib.Omega.{arith}
 use lib.ListN.{length, length-append}
 use Rattle.exact.specs.Meaning.Matrix.{Same}
 use Rattle.exact.specs.Meaning.Word.{Letter, I, H, S, X, W, T′, word, tees}
-use Rattle.exact.specs.Meaning.Normal.{Syllable, HT, SHT, Front, nothing, onlyH, onlySH, Tail, Shape, Fits, Normal}
-use Rattle.exact.specs.Meaning.Normal.{times, frontWord, tailWord, orI, after, leading, spell}
+use Rattle.exact.specs.Meaning.Normal.{Syllable, HT, SHT, Front, nothing, onlyH, onlySH, Tail, Shape, Fits, Normal, times, frontWord, tailWord, orI, after, leading, spell}
 use Rattle.exact.specs.Meaning.Clifford.{cycle}
 use Rattle.exact.specs.Matrices.Same.{Same-of}
 use Rattle.exact.specs.Unique.Normal.{spell-word}
@@ -18,11 +17,9 @@ use Rattle.clifford.specs.declared.Axis.{Axis}
 use Rattle.clifford.specs.declared.Axis.the-variants as Axis
 use Rattle.clifford.specs.declared.Clifford.{Clifford}
 use Rattle.clifford.specs.declared.Coset.{Coset}
-use Rattle.clifford.specs.Job6.{letters, axisWord, Ranged, Split}
+use Rattle.clifford.specs.Meaning.{letters, axisWord, Ranged, Split}
 use Rattle.clifford.specs.Words.{_≈_, by-test, by-refl, by-eq, by-sym, _⨾_, under, before}
-use Rattle.clifford.specs.Cliffords.{mulC, mul-right, mul-ranged, splitC, split-right, tconjC, tconj-ranged, tconj-same, few}
-use Rattle.clifford.specs.Cliffords.{cliffordI, cliffordX, cliffordS, cliffordW, cliffordH, cliffordHS, cliffordSHS}
-use Rattle.clifford.specs.Cliffords.{H-is, HS-is, SHS-is, H-ranged}
+use Rattle.clifford.specs.Cliffords.{mulC, mul-right, mul-ranged, splitC, split-right, tconjC, tconj-ranged, tconj-same, few, cliffordI, cliffordX, cliffordS, cliffordW, cliffordH, cliffordHS, cliffordSHS, H-is, HS-is, SHS-is, H-ranged}
 
 -- the syllables with the last one first
 pub record State : Type 0 where

@@ -17,7 +17,8 @@ use Rattle.clifford.specs.declared.Clifford.{Clifford}
 use Rattle.clifford.specs.declared.Coset.{Coset}
 use Rattle.reading.specs.declared.steps.Step.{Step}
 use Rattle.reading.specs.declared.steps.Tail.{Tail}
-use Rattle.clifford.specs.Job6.{Ranged, axisNumber, axis-at}
+use Rattle.clifford.specs.Meaning.{Ranged, axisNumber}
+use Rattle.clifford.specs.Unique.{axis-at}
 use Rattle.clifford.specs.Tables.{quadruple, all, at}
 use Rattle.clifford.specs.Cliffords.{mulC, splitC, split-right}
 use Rattle.reading.specs.Pairs.{kind₂, next₂, eqClifford, eqClifford-is}

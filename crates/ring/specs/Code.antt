@@ -8,12 +8,12 @@ use lib.IntN.{ℤ}
 use lib.ListN.{getD}
 use mir.Syntax.{w64}
 use mir.Val.{SFits, hbits}
-use Rattle.exact.specs.Meaning.Number.{ints}
+use Rattle.exact.specs.Meaning.Number.{ints, Sized}
 use Rattle.exact.specs.Algebra.Solver.{at}
-use Rattle.exact.specs.Meaning.Number.{Sized}
 use Rattle.exact.specs.Whole.Size.{Within}
 use Rattle.exact.specs.Whole.Machine.{Code, value, held, ran, allFit, need-by, result-by}
-use Rattle.ring.specs.Number.{quad, four}
+use Rattle.ring.specs.Meaning.{quad}
+use Rattle.ring.specs.Number.{four}
 use Rattle.ring.specs.declared.ZOmega.{ZOmega}
 
 abbrev limits : ℕ → List ℕ → List ℕ

@@ -18,7 +18,8 @@ use Rattle.exact.specs.Algebra.Omega.{quad-path}
 use Rattle.exact.specs.Algebra.Over.{divides, over-times}
 use Rattle.exact.specs.Algebra.Twos.{Multiple, shifted-times}
 use Rattle.ring.specs.Code.{is₁}
-use Rattle.ring.specs.Number.{quad, Small, four}
+use Rattle.ring.specs.Meaning.{quad}
+use Rattle.ring.specs.Number.{Small, four}
 use Rattle.ring.specs.declared.ZOmega.{ZOmega}
 
 -- ---- by root two: what the machine hands back for each coefficient

@@ -1,19 +1,16 @@
--- A machine's ring number as the exact one, and its size. Assumes nothing.
+-- The size of a machine's ring number, and what a turn and a sign make of it. Assumes nothing.
 use mathlib.Core.Path.{_≡_, sym, _∙_, ap}
 use mathlib.Core.List.{List, [], _∷_}
 use Prim.Native.Nat.{ℕ, _-_, _^_, _<_}
 use native.Mathlib.Omega.{arith}
 use lib.IntN.{ℤ, pos, _-ℤ_}
-use Rattle.exact.specs.Meaning.Number.{Quad, Ω, ints, quads, power, negQ, mulQ, omega′, omega^}
+use Rattle.exact.specs.Meaning.Number.{Quad, Ω, ints, quads, power, negQ, mulQ, omega′, omega^, Sized}
 use Rattle.exact.specs.Algebra.Ring.{ints-laws}
 use Rattle.exact.specs.Algebra.Solver.{Expr, con, _⊝_, exprs}
 use Rattle.exact.specs.Algebra.Omega.{X₀, parts, solveQ}
-use Rattle.exact.specs.Meaning.Number.{Sized}
 use Rattle.exact.specs.Whole.Size.{natAbs-sub}
 use Rattle.ring.specs.declared.ZOmega.{ZOmega}
-
-abbrev pub quad : ZOmega → Ω
-quad x = record { a = x .a; b = x .b; c = x .c; d = x .d }
+use Rattle.ring.specs.Meaning.{quad}
 
 -- each coefficient is at most 2^31 in size
 pub record Small (x : ZOmega) : Type 0 where

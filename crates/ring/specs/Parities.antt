@@ -10,7 +10,8 @@ use Rattle.exact.specs.Whole.Parity.{false-true}
 use Rattle.exact.specs.Whole.Machine.{arg, _∔_, held}
 use Rattle.exact.specs.Algebra.Over.{divides}
 use Rattle.ring.specs.Code.{is₁}
-use Rattle.ring.specs.Number.{quad, Small}
+use Rattle.ring.specs.Meaning.{quad}
+use Rattle.ring.specs.Number.{Small}
 use Rattle.ring.specs.declared.ZOmega.{ZOmega}
 
 -- ---- what the first test says of both

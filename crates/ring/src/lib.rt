@@ -10,7 +10,8 @@ ghost use Rattle.exact.specs.Meaning.Triple.{squares, crosses};
 ghost use Rattle.exact.specs.Whole.Twos.{Zeros};
 ghost use Rattle.exact.specs.Algebra.Over.{divides};
 ghost use Rattle.exact.specs.Algebra.Twos.{Multiple, Shares};
-ghost use Rattle.ring.specs.Number.{quad, Small};
+ghost use Rattle.ring.specs.Meaning.{quad};
+ghost use Rattle.ring.specs.Number.{Small};
 
 pub struct ZOmega {
     pub a: i64,

@@ -26,20 +26,19 @@ use Rattle.exact.specs.Outcomes.Ladder.{Passed, skip}
 use Rattle.exact.specs.Outcomes.Lent.{Written, written-as}
 use Rattle.ring.specs.declared.ZOmega.{ZOmega}
 use Rattle.unitary.specs.declared.DOmegaUnitary.{DOmegaUnitary}
-use Rattle.unitary.specs.Triples.{triple, given}
-use Rattle.unitary.specs.Outcomes.{Answers}
+use Rattle.unitary.specs.Meaning.{triple, given, Answers}
 use Rattle.unitary.specs.Checks.{CheckOutcome, exponent-size}
 use Rattle.unitary.specs.Checked.{taken, refused-as, taken-as}
 use Rattle.unitary.specs.Acts.{Good}
 use Rattle.normal_form.specs.declared.Written as Job3
-use Rattle.normal_form.specs.Outcome as Normalised
-use Rattle.normal_form.specs.Outcome.{Normalises, NormaliseOutcome}
+use Rattle.normal_form.specs.Meaning as Normalised
+use Rattle.normal_form.specs.Meaning.{Normalises, NormaliseOutcome}
 use Rattle.writing.specs.Put.{Put}
 use Rattle.synthesis_of_clifford_t.specs.declared.Synthesis.{Synthesis}
 use Rattle.synthesis_of_clifford_t.specs.Step.{Ready}
 use Rattle.synthesis_of_clifford_t.specs.Steps.{letters, letters-same}
 use Rattle.synthesis_of_clifford_t.specs.Counts.{letters-plain, letters-length}
-use Rattle.synthesis_of_clifford_t.specs.Outcome.{refused, counts, SynthesiseOutcome}
+use Rattle.synthesis_of_clifford_t.specs.Meaning.{refused, counts, SynthesiseOutcome}
 
 -- the normal word of a reduced triple, where there is room for it
 abbrev pub AnsweredBy : Triple → List ℕ → Synthesis → List ℕ → Type 0

@@ -20,18 +20,18 @@ use Rattle.exact.specs.Whole.Parity.{false-true}
 use Rattle.exact.specs.Whole.Machine.{held, arg}
 use Rattle.exact.specs.Algebra.OmegaPower.{which}
 use Rattle.ring.specs.declared.ZOmega.{ZOmega}
-use Rattle.ring.specs.Number.{quad, Small}
+use Rattle.ring.specs.Meaning.{quad}
+use Rattle.ring.specs.Number.{Small}
 use Rattle.ring.specs.Code.{is₁}
 use Rattle.unitary.specs.declared.DOmegaUnitary.{DOmegaUnitary}
-use Rattle.unitary.specs.Triples.{triple}
+use Rattle.unitary.specs.Meaning.{triple}
 use Rattle.unitary.specs.Acts.{Good, good-z, good-w}
 use Rattle.writing.specs.Put.{Put, put-more, put-length}
 use Rattle.writing.specs.Endings.{endWord, endSize}
 use Rattle.writing.specs.Codes.{bytes-append}
 use Rattle.synthesis_of_clifford_t.specs.declared.Closing as declared
 use Rattle.synthesis_of_clifford_t.specs.Residues.{back}
-use Rattle.synthesis_of_clifford_t.specs.Closing.{isZero, swaps, phase, closing, phase-few}
-use Rattle.synthesis_of_clifford_t.specs.Closing.{Last, diagonal, swapped, last, length-times}
+use Rattle.synthesis_of_clifford_t.specs.Closing.{isZero, swaps, phase, closing, phase-few, Last, diagonal, swapped, last, length-times}
 use Rattle.synthesis_of_clifford_t.specs.Code.{small-turned}
 
 -- ---- which power of omega

@@ -14,9 +14,10 @@ use Rattle.exact.specs.Matrices.Triples.{act}
 use Rattle.exact.specs.Matrices.Divided.{Divided, divided-once}
 use Rattle.exact.specs.Matrices.Least.{modEight}
 use Rattle.exact.specs.Matrices.Sizes.{z-sized, w-sized, sized-le, add-sized, neg-sized, omega-sized}
-use Rattle.ring.specs.Number.{quad, Small}
+use Rattle.ring.specs.Meaning.{quad}
+use Rattle.ring.specs.Number.{Small}
 use Rattle.unitary.specs.declared.DOmegaUnitary.{DOmegaUnitary}
-use Rattle.unitary.specs.Triples.{triple}
+use Rattle.unitary.specs.Meaning.{triple}
 use Rattle.unitary.specs.Acts.{Good, turnedBack}
 use Rattle.unitary.specs.Checks.{bothTest}
 use Rattle.synthesis_of_clifford_t.specs.declared.Reduction as declared

@@ -1,4 +1,5 @@
 -- Synthesis: the step that document 01 describes, why it ends, what it writes and how much. Proofs over the definitions of `exact`.
+pub mod Meaning
 pub mod Residues
 pub mod Step
 pub mod Closing
@@ -8,7 +9,7 @@ pub mod Synthesised
 pub mod Tees
 pub mod Loop
 pub mod Cases
-pub mod Outcome
+pub mod Unique
 pub mod Code
 pub mod Closes
 pub mod Parts

@@ -15,7 +15,7 @@ use Rattle.exact.specs.Meaning.Word.{Letter, bytes}
 use Rattle.exact.specs.Meaning.Triple.{Triple}
 use Rattle.exact.specs.Meaning.Limits.{deepest}
 use Rattle.unitary.specs.declared.DOmegaUnitary.{DOmegaUnitary}
-use Rattle.unitary.specs.Triples.{triple}
+use Rattle.unitary.specs.Meaning.{triple}
 use Rattle.unitary.specs.Acts.{Good}
 use Rattle.writing.specs.Put.{Put, put-none, put-length, put-more}
 use Rattle.exact.specs.Cases.Letters.{bytes-length}
@@ -27,8 +27,7 @@ use Rattle.synthesis_of_clifford_t.specs.Closing.{closing}
 use Rattle.synthesis_of_clifford_t.specs.Steps.{left, left-next, letters}
 use Rattle.synthesis_of_clifford_t.specs.Counts.{block-length}
 use Rattle.synthesis_of_clifford_t.specs.Synthesised.{reduction-stepped}
-use Rattle.synthesis_of_clifford_t.specs.Loop.{Progress, progress-start, progress-step}
-use Rattle.synthesis_of_clifford_t.specs.Loop.{progress-room, progress-letters, progress-length}
+use Rattle.synthesis_of_clifford_t.specs.Loop.{Progress, progress-start, progress-step, progress-room, progress-letters, progress-length}
 use Rattle.synthesis_of_clifford_t.specs.Code.{answerOf, good-ready}
 
 -- ---- a block, T^m·H with S for TT

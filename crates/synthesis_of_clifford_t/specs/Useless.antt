@@ -19,15 +19,15 @@ use Rattle.exact.specs.Outcomes.Ladder.{answered}
 use Rattle.exact.specs.Outcomes.Places.{one-normal}
 use Rattle.exact.specs.Outcomes.Checked.{Taken, taken-checks}
 use Rattle.exact.specs.Outcomes.Lent.{handed-same}
-use Rattle.ring.specs.Number.{quad}
+use Rattle.ring.specs.Meaning.{quad}
 use Rattle.ring.specs.declared.ZOmega.{ZOmega}
-use Rattle.unitary.specs.Triples.{given}
+use Rattle.unitary.specs.Meaning.{given}
 use Rattle.synthesis_of_clifford_t.specs.declared.Synthesis.{Synthesis}
 use Rattle.synthesis_of_clifford_t.specs.Residues.{powerBy, back}
 use Rattle.synthesis_of_clifford_t.specs.Step.{block, power}
 use Rattle.synthesis_of_clifford_t.specs.Closing.{closing}
 use Rattle.synthesis_of_clifford_t.specs.Steps.{gathered, letters}
-use Rattle.synthesis_of_clifford_t.specs.Outcome.{refused, counts, asked, refusals, SynthesiseOutcome}
+use Rattle.synthesis_of_clifford_t.specs.Meaning.{refused, counts, asked, refusals, SynthesiseOutcome}
 
 abbrev number : ℤ → ℤ → ℤ → ℤ → ZOmega
 number a b c d = record { a = a; b = b; c = c; d = d }

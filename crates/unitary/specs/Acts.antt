@@ -21,10 +21,10 @@ use Rattle.exact.specs.Matrices.Test.{same-by}
 use Rattle.exact.specs.Matrices.Triples.{act, acts, unitary-same, unitary-act}
 use Rattle.exact.specs.Matrices.Sizes.{z-sized, w-sized, sized-le, add-sized, neg-sized, omega-sized}
 use Rattle.exact.specs.Matrices.Least.{modEight, modEight-same, test-reduced, reduced-test, reducedTest, lowest}
-use Rattle.ring.specs.Number.{quad, Small}
+use Rattle.ring.specs.Meaning.{quad}
+use Rattle.ring.specs.Number.{Small}
 use Rattle.ring.specs.declared.ZOmega.{ZOmega}
-use Rattle.unitary.specs.Triples.{triple}
-use Rattle.unitary.specs.Outcomes.{Answers}
+use Rattle.unitary.specs.Meaning.{triple, Answers}
 use Rattle.unitary.specs.Checks.{bothTest}
 use Rattle.unitary.specs.declared.DOmegaUnitary.{DOmegaUnitary}
 

@@ -15,18 +15,18 @@ use Rattle.exact.specs.Meaning.Triple.{entries}
 use Rattle.exact.specs.Meaning.Limits as Limits
 use Rattle.exact.specs.Meaning.Limits.{largest, deepest}
 use Rattle.exact.specs.Meaning.Outcome as Meaning
-use Rattle.exact.specs.Meaning.Outcome.{Rung, _also_}
+use Rattle.exact.specs.Meaning.Outcome.{Rung, _also_, Decides}
 use Rattle.exact.specs.Meaning.Refusals.{InExponents, InCoefficients, checks}
 use Rattle.exact.specs.Outcomes.Ladder.{pass, check-passed, check-refused}
 use Rattle.exact.specs.Outcomes.Checked.{Taken, checks-taken, taken-checks, checks-placeless}
 use Rattle.exact.specs.Whole.Machine.{held}
 use Rattle.exact.specs.Matrices.Sizes.{sized-le}
-use Rattle.ring.specs.Number.{quad, Small}
+use Rattle.ring.specs.Meaning.{quad}
+use Rattle.ring.specs.Number.{Small}
 use Rattle.ring.specs.declared.ZOmega.{ZOmega}
 use Rattle.unitary.specs.declared.DOmegaUnitary.{DOmegaUnitary}
-use Rattle.unitary.specs.Triples.{triple, given, none}
-use Rattle.unitary.specs.Outcomes.{Answers, refused, Reduces, ReduceOutcome}
-use Rattle.unitary.specs.Checks.{Decides, UnitaryAt, CheckOutcome, below-zero, over-sixty, in-exponents, exponent-cast, exponent-size}
+use Rattle.unitary.specs.Meaning.{triple, given, none, Answers, refused, Reduces, ReduceOutcome}
+use Rattle.unitary.specs.Checks.{UnitaryAt, CheckOutcome, below-zero, over-sixty, in-exponents, exponent-cast, exponent-size}
 
 -- ---- the check
 module _ (k : ℤ) (fits : SFits w64 k) (low : ltZ (held w64 k) (pos 0) ≡ false) (high : ltZ (pos 60) (held w64 k) ≡ false) where

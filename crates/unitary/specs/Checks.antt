@@ -22,15 +22,11 @@ use Rattle.exact.specs.Whole.Parity.{false-true}
 use Rattle.exact.specs.Whole.Size.{sfits-abs}
 use Rattle.exact.specs.Whole.Machine.{held, arg, lit, _∸_, need-by}
 use Rattle.exact.specs.Matrices.Sizes.{squares-size, crosses-size}
-use Rattle.ring.specs.Number.{quad}
+use Rattle.ring.specs.Meaning.{quad}
 use Rattle.ring.specs.declared.ZOmega.{ZOmega}
+use Rattle.exact.specs.Meaning.Outcome.{Decides}
 use Rattle.exact.specs.Meaning.Refusals.{InExponents, InCoefficients, checks}
 use Rattle.exact.specs.Outcomes.Ladder.{Checks}
-
--- a Boolean that says whether P holds
-pub record Decides (P : Type 0) (b : Bool) : Type 0 where
-  pub yes : b ≡ true → P
-  pub no : b ≡ false → P → ⊥
 
 -- ---- unitary does not ask for n
 abbrev pub UnitaryAt : ℕ → ZOmega → ZOmega → Type 0

@@ -10,7 +10,7 @@ use lib.ListN.{length, getD}
 use Rattle.exact.specs.Meaning.Word.{Letter, I, H, S, X, W, T′, byte, bytes, In, FirstOutside, job2}
 use Rattle.exact.specs.Cases.Letters.{letterOf, lettersOf}
 use Rattle.exact.specs.Whole.Parity.{false-true}
-use Rattle.unitary.specs.Checks.{Decides}
+use Rattle.exact.specs.Meaning.Outcome.{Decides}
 
 pub record Scanned (alphabet : Letter → Bool) (bs : List ℕ) (r : ℕ) : Type 0 where
   pub most : r ≤ length bs

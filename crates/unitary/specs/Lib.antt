@@ -1,6 +1,6 @@
--- Triples in 64 bits: what jobs 1 and 2 promise (`Outcomes`), and what their proofs lean on.
+-- Triples in 64 bits: what jobs 1 and 2 promise (`Meaning`), and what their proofs lean on.
+pub mod Meaning
 pub mod Triples
-pub mod Outcomes
 pub mod Checks
 pub mod Checked
 pub mod Acts

@@ -24,8 +24,7 @@ use Rattle.exact.specs.Matrices.Least.{least-same, test-reduced}
 use Rattle.exact.specs.Matrices.Triples.{identity}
 use Rattle.unitary.specs.declared.DOmegaUnitary.{DOmegaUnitary}
 use Rattle.unitary.specs.declared.FromGates.{FromGates}
-use Rattle.unitary.specs.Triples.{triple}
-use Rattle.unitary.specs.Outcomes.{Answers, stopped, Multiplies, MatrixOutcome}
+use Rattle.unitary.specs.Meaning.{triple, Answers, stopped, Multiplies, MatrixOutcome}
 use Rattle.unitary.specs.Letters.{Scanned, scanned-first, scanned-all, all-spell}
 use Rattle.unitary.specs.Acts.{Good, Acted}
 

@@ -21,9 +21,9 @@ use Rattle.exact.specs.Algebra.Twos.{Multiple, Shares, quotient-sized, twice-mo
 use Rattle.exact.specs.Matrices.Same.{Same-trans, Same-of}
 use Rattle.exact.specs.Matrices.Divided.{Divided, divided-same}
 use Rattle.exact.specs.Matrices.Least.{modEight, modEight-same, test-reduced, reducedTest, lowest}
-use Rattle.ring.specs.Number.{quad, Small}
-use Rattle.unitary.specs.Triples.{triple}
-use Rattle.unitary.specs.Outcomes.{Answers}
+use Rattle.ring.specs.Meaning.{quad}
+use Rattle.ring.specs.Number.{Small}
+use Rattle.unitary.specs.Meaning.{triple, Answers}
 use Rattle.unitary.specs.Checks.{bothTest}
 use Rattle.unitary.specs.declared.DOmegaUnitary.{DOmegaUnitary}
 

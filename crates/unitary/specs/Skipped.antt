@@ -12,12 +12,11 @@ use Rattle.exact.specs.Meaning.Refusals.{long, letter, deep, InExponents, expon
 use Rattle.exact.specs.Cases.Outside.{third, i-third}
 use Rattle.exact.specs.Outcomes.Ladder.{only-refused}
 use Rattle.exact.specs.Outcomes.Places.{one-plain, one-letter}
-use Rattle.ring.specs.Number.{quad}
+use Rattle.ring.specs.Meaning.{quad}
 use Rattle.ring.specs.declared.ZOmega.{ZOmega}
 use Rattle.unitary.specs.declared.Checked.{Checked}
 use Rattle.unitary.specs.declared.FromGates.{FromGates}
-use Rattle.unitary.specs.Triples.{given}
-use Rattle.unitary.specs.Outcomes.{refused, Reduces, ReduceOutcome, stopped, Multiplies, MatrixOutcome}
+use Rattle.unitary.specs.Meaning.{given, refused, Reduces, ReduceOutcome, stopped, Multiplies, MatrixOutcome}
 
 -- ---- k over 60 and a coefficient over 2^30: neither accepted nor refused 4, but 3
 abbrev number : ℕ → ZOmega

@@ -14,11 +14,11 @@ use Rattle.exact.specs.Matrices.Triples.{word-triple, word-unitary, unitary-sam
 use Rattle.exact.specs.Outcomes.Ladder.{Only, one-outcome}
 use Rattle.exact.specs.Outcomes.Places.{one-plain, one-letter, one-deep, one-spelled}
 use Rattle.exact.specs.Outcomes.Checked.{checks-taken, checks-one}
-use Rattle.ring.specs.Number.{quad}
+use Rattle.ring.specs.Meaning.{quad}
 use Rattle.ring.specs.declared.ZOmega.{ZOmega}
 use Rattle.unitary.specs.declared.DOmegaUnitary.{DOmegaUnitary}
-use Rattle.unitary.specs.Triples.{triple, triple-inj, given}
-use Rattle.unitary.specs.Outcomes.{Answers, refused, Reduces, ReduceOutcome, stopped, Multiplies, MatrixOutcome}
+use Rattle.unitary.specs.Meaning.{triple, given, Answers, refused, Reduces, ReduceOutcome, stopped, Multiplies, MatrixOutcome}
+use Rattle.unitary.specs.Triples.{triple-inj}
 
 -- the answers for a unitary matrix
 one-answer : (t : Triple) → Unitary t → (m : Matrix) → Same (entries t) m → (x y : DOmegaUnitary) → Answers m (triple x)

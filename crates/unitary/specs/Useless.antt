@@ -12,13 +12,12 @@ use Rattle.exact.specs.Meaning.Outcome.{none}
 use Rattle.exact.specs.Meaning.Refusals.{checks}
 use Rattle.exact.specs.Outcomes.Ladder.{pass}
 use Rattle.exact.specs.Outcomes.Checked.{Taken, taken-checks}
-use Rattle.ring.specs.Number.{quad}
+use Rattle.ring.specs.Meaning.{quad}
 use Rattle.ring.specs.declared.ZOmega.{ZOmega}
 use Rattle.unitary.specs.declared.Checked.{Checked}
 use Rattle.unitary.specs.declared.FromGates.{FromGates}
 use Rattle.unitary.specs.declared.DOmegaUnitary.{DOmegaUnitary}
-use Rattle.unitary.specs.Triples.{triple, given}
-use Rattle.unitary.specs.Outcomes.{refused, Reduces, ReduceOutcome, MatrixOutcome}
+use Rattle.unitary.specs.Meaning.{triple, given, refused, Reduces, ReduceOutcome, MatrixOutcome}
 use Rattle.unitary.specs.Reading.{read-start, read-whole}
 use Rattle.unitary.specs.Unique.{reduce-unique, matrix-unique}
 

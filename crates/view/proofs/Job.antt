@@ -11,7 +11,7 @@ use Rattle.exact.specs.Meaning.Outcome.{none}
 use Rattle.exact.specs.Meaning.Triple.{Unitary}
 use Rattle.exact.specs.Whole.Machine.{held}
 use Rattle.ring.specs.declared.ZOmega.{ZOmega}
-use Rattle.unitary.specs.Triples.{given}
+use Rattle.unitary.specs.Meaning.{given}
 use Rattle.unitary.specs.Checks.{CheckOutcome, exponent-size}
 use Rattle.unitary.specs.Checked.{taken, refused-as, taken-as}
 use Rattle.view.specs.Meaning.Outcome.{Viewed, nothing, refused, Views, ViewOutcome}

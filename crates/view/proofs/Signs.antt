@@ -7,7 +7,8 @@ use native.Mathlib.Nat.{not-suc-le-zero}
 use native.Mathlib.Omega.{arith}
 use lib.IntN.{ℤ, pos, negsuc, negℤ, natAbs, _-ℤ_, _*ℤ_}
 use lib.Dec.{T}
-use Rattle.exact.specs.Whole.Linear.{up, down, difference, negation}
+use Rattle.exact.specs.Meaning.Number.{up, down}
+use Rattle.exact.specs.Whole.Linear.{difference, negation}
 use Rattle.view.specs.Meaning.Near.{isNeg, AtMost}
 use Rattle.view.proofs.Error.{Below, loosen, Parts}
 

@@ -10,7 +10,7 @@ use lib.Pow.{pow-add, pow-pos, pow-mono}
 use lib.Ieee.{Float, binary64, add, mul, ofInt}
 use lib.Ieee.Exact.{HasValue}
 use lib.Ieee.Positive.{first-pos}
-use Rattle.exact.specs.Whole.Linear.{up, down}
+use Rattle.exact.specs.Meaning.Number.{up, down}
 use Rattle.view.specs.Meaning.Surd.{Surd}
 use Rattle.view.specs.Meaning.Near.{rootTwo, half^, rounded, isNeg, tolerance, Near, Shows}
 use Rattle.view.proofs.Casting.{cast-value, neg-positive}

@@ -7,9 +7,9 @@ use Rattle.exact.specs.Meaning.Triple.{Triple}
 use Rattle.exact.specs.Meaning.Refusals.{checks}
 use Rattle.exact.specs.Outcomes.Ladder.{Only, one-outcome}
 use Rattle.exact.specs.Outcomes.Checked.{checks-one}
-use Rattle.ring.specs.Number.{quad}
+use Rattle.ring.specs.Meaning.{quad}
 use Rattle.ring.specs.declared.ZOmega.{ZOmega}
-use Rattle.unitary.specs.Triples.{given}
+use Rattle.unitary.specs.Meaning.{given}
 use Rattle.view.specs.Meaning.Surd.{Surd}
 use Rattle.view.specs.Meaning.Near.{Shows}
 use Rattle.view.specs.Meaning.Outcome.{Viewed, refused, Views, ViewOutcome}

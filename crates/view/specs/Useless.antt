@@ -6,9 +6,9 @@ use lib.IntN.{pos}
 use Rattle.exact.specs.Meaning.Refusals.{checks}
 use Rattle.exact.specs.Outcomes.Ladder.{answered}
 use Rattle.exact.specs.Outcomes.Checked.{Taken, taken-checks}
-use Rattle.ring.specs.Number.{quad}
+use Rattle.ring.specs.Meaning.{quad}
 use Rattle.ring.specs.declared.ZOmega.{ZOmega}
-use Rattle.unitary.specs.Triples.{given}
+use Rattle.unitary.specs.Meaning.{given}
 use Rattle.view.specs.declared.Answer.{Answer}
 use Rattle.view.specs.Meaning.Outcome.{refused, Views, ViewOutcome}
 

@@ -2,7 +2,7 @@
 ghost use mathlib.Core.Path.{_≡_};
 ghost use Prim.Native.Nat.{_≤_};
 ghost use Rattle.exact.specs.Meaning.Triple.{Unitary};
-ghost use Rattle.ring.specs.Number.{quad};
+ghost use Rattle.ring.specs.Meaning.{quad};
 ghost use Rattle.view.specs.Meaning.Outcome.{Viewed, nothing};
 use crate::number::conj;
 use crate::number::mul_by_omega_power;

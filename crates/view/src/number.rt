@@ -2,7 +2,7 @@
 ghost use mathlib.Core.Path.{_≡_};
 ghost use Prim.Native.Nat.{_≤_, _^_};
 ghost use Rattle.exact.specs.Meaning.Number.{ints, mulQ, conjQ, omega^};
-ghost use Rattle.ring.specs.Number.{quad};
+ghost use Rattle.ring.specs.Meaning.{quad};
 ghost use Rattle.view.specs.Meaning.Outcome.{Entry};
 ghost use Rattle.view.specs.Size.{size};
 use crate::float::over;

@@ -16,7 +16,7 @@ use Rattle.clifford.specs.declared.Axis.the-variants as Axis
 use Rattle.clifford.specs.declared.Clifford.{Clifford}
 use Rattle.clifford.specs.declared.Coset.{Coset}
 use Rattle.writing.specs.declared.Ending.{Ending}
-use Rattle.clifford.specs.Job6.{Ranged}
+use Rattle.clifford.specs.Meaning.{Ranged}
 use Rattle.clifford.specs.Cliffords.{splitC, split-right}
 use Rattle.reading.specs.Readings.{State, prefix, tailAt}
 

@@ -6,7 +6,7 @@ use Rattle.exact.specs.Meaning.Number.{Sized}
 use Rattle.exact.specs.Meaning.Triple.{Triple}
 use Rattle.exact.specs.Matrices.Triples.{identity}
 use Rattle.ring.specs.Number.{Small}
-use Rattle.unitary.specs.Triples.{triple}
+use Rattle.unitary.specs.Meaning.{triple}
 use Rattle.unitary.specs.declared.DOmegaUnitary.{DOmegaUnitary}
 use borrow.Author.Needs.{needs}
 use Rattle.cases_synthesis.proofs.t_inverse.Statement.{statement}

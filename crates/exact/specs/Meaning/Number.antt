@@ -91,3 +91,12 @@ pub record Sized (n : ℕ) (x : Ω) : Type 0 where
   pub b-small : natAbs (x .b) ≤ n
   pub c-small : natAbs (x .c) ≤ n
   pub d-small : natAbs (x .d) ≤ n
+
+-- ---- a whole number z is up z - down z, two natural numbers of which one is 0
+abbrev pub up : ℤ → ℕ
+up (pos n) = n
+up (negsuc n) = 0
+
+abbrev pub down : ℤ → ℕ
+down (pos n) = 0
+down (negsuc n) = suc n

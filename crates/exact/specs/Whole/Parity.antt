@@ -7,9 +7,9 @@ use borrow.Author.Tests.{eqb-true, eqb-false}
 use lib.Dec.{eqb}
 use lib.IntN.{ℤ, pos, negsuc, sucℤ, predℤ, negℤ, natAbs, _+ℤ_, _-ℤ_, _*ℤ_, +ℤ-idl, sucℤ-+ℤ, predℤ-+ℤ, zero-*ℤ, sucℤ-*ℤ, predℤ-*ℤ}
 use lib.Signed.{shrZ}
-use Rattle.exact.specs.Meaning.Number.{odd, bit}
+use Rattle.exact.specs.Meaning.Number.{odd, bit, up, down}
 use Rattle.exact.specs.Whole.Laws.{ℤ-steps}
-use Rattle.exact.specs.Whole.Linear.{up, down, int, sum, difference}
+use Rattle.exact.specs.Whole.Linear.{int, sum, difference}
 
 -- ---- one or the other
 abbrev pub xr : Bool → Bool → Bool

@@ -11,9 +11,9 @@ use lib.IntN.{ℤ, pos, negsuc, negℤ, subℕ, natAbs, _+ℤ_, _-ℤ_, _*ℤ_}
 use lib.Signed.{mag}
 use mir.Syntax.{Width}
 use mir.Val.{SFits, hbits}
-use Rattle.exact.specs.Meaning.Number.{ints}
+use Rattle.exact.specs.Meaning.Number.{ints, up, down}
 use Rattle.exact.specs.Algebra.Solver.{Expr, var, con, _⊕_, _⊗_, ⊖, eval, at}
-use Rattle.exact.specs.Whole.Linear.{up, down, cond-ind}
+use Rattle.exact.specs.Whole.Linear.{cond-ind}
 use Rattle.exact.specs.Whole.Parity.{half}
 
 -- ---- absolute values

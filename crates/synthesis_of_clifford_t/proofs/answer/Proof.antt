@@ -4,7 +4,7 @@ use Prim.Native.Nat.{ℕ}
 use lib.ListN.{replicate}
 use denote.Ref.{now}
 use Rattle.exact.specs.Meaning.Word.{Letter, bytes}
-use Rattle.unitary.specs.Triples.{triple}
+use Rattle.unitary.specs.Meaning.{triple}
 use Rattle.writing.specs.Put.{Put}
 use Rattle.synthesis_of_clifford_t.specs.Steps.{letters}
 use Rattle.synthesis_of_clifford_t.specs.Code.{good-ready}

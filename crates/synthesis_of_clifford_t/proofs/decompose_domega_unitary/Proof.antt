@@ -1,11 +1,9 @@
 -- `synthesis_of_clifford_t::decompose_domega_unitary` meets its contract: each turn takes a step and writes its block into the free
 -- rest; the measure is how many steps there may be.
 use native.Mathlib.Omega.{arith}
-use Rattle.unitary.specs.Triples.{triple}
+use Rattle.unitary.specs.Meaning.{triple}
 use Rattle.synthesis_of_clifford_t.specs.Steps.{left}
-use Rattle.synthesis_of_clifford_t.specs.Parts.{Writing, writing-start, still-good, still-few, len-inside, length-kept, block-fits}
-use Rattle.synthesis_of_clifford_t.specs.Parts.{not-ended, step-few, step-nearer, step-room, step-writing}
-use Rattle.synthesis_of_clifford_t.specs.Parts.{end-room, end-fits, end-put}
+use Rattle.synthesis_of_clifford_t.specs.Parts.{Writing, writing-start, still-good, still-few, len-inside, length-kept, block-fits, not-ended, step-few, step-nearer, step-room, step-writing, end-room, end-fits, end-put}
 use borrow.Author.Needs.{needs}
 use Rattle.synthesis_of_clifford_t.proofs.decompose_domega_unitary.Statement.{statement}
 use Rattle.synthesis_of_clifford_t.proofs.decompose_domega_unitary.Tie as tie

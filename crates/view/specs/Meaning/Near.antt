@@ -5,7 +5,7 @@ use Prim.Native.Nat.{ℕ, _-_, _*_, _^_, _≤_}
 use lib.IntN.{ℤ, pos, negsuc, negℤ, natAbs, _-ℤ_, _*ℤ_}
 use lib.Ieee.{Float, binary64, round, add, mul, ofInt, ofBits}
 use lib.Ieee.Exact.{HasValue}
-use Rattle.exact.specs.Whole.Linear.{up, down}
+use Rattle.exact.specs.Meaning.Number.{up, down}
 use Rattle.view.specs.Meaning.Surd.{Surd}
 
 -- p is at most q·root two; `up z` is z where z is above 0, `down z` is -z where z is below 0, and each is 0 elsewhere

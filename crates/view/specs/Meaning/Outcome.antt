@@ -9,9 +9,9 @@ use Rattle.exact.specs.Meaning.Triple.{Triple, entries}
 use Rattle.exact.specs.Meaning.Limits.{Accepted}
 use Rattle.exact.specs.Meaning.Outcome.{Outcome}
 use Rattle.exact.specs.Meaning.Refusals.{checks}
-use Rattle.ring.specs.Number.{quad}
+use Rattle.ring.specs.Meaning.{quad}
 use Rattle.ring.specs.declared.ZOmega.{ZOmega}
-use Rattle.unitary.specs.Triples.{given}
+use Rattle.unitary.specs.Meaning.{given}
 use Rattle.view.specs.Meaning.Surd.{real, imaginary}
 use Rattle.view.specs.Meaning.Near.{Shows}
 use Rattle.view.specs.declared.matrix.View.{View}

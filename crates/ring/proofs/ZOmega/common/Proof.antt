@@ -1,6 +1,6 @@
 -- `ring::ZOmega::common` meets its contract: the `or` of the four has the trailing zeros that they share.
 use Rattle.exact.specs.Algebra.Twos.{or-shares}
-use Rattle.ring.specs.Number.{quad}
+use Rattle.ring.specs.Meaning.{quad}
 use Rattle.ring.proofs.ZOmega.common.Statement.{statement}
 use Rattle.ring.proofs.ZOmega.common.Tie as tie
 

@@ -5,7 +5,8 @@ use lib.IntN.{pos}
 use borrow.Author.Needs.{needs}
 use Rattle.exact.specs.Algebra.Omega.{quad-path}
 use Rattle.exact.specs.Whole.Machine.{arg, lit, _∸_}
-use Rattle.ring.specs.Number.{quad, turned}
+use Rattle.ring.specs.Meaning.{quad}
+use Rattle.ring.specs.Number.{turned}
 use Rattle.ring.specs.Code.{fits₁, is₁}
 use Rattle.ring.proofs.ZOmega.mul_by_omega.Statement.{statement}
 use Rattle.ring.proofs.ZOmega.mul_by_omega.Tie as tie

@@ -1,6 +1,6 @@
 -- `unitary::DOmegaUnitary::mul_by_s_from_left` meets its contract: w goes by omega twice.
 use mathlib.Core.Path.{refl, _∙_}
-use Rattle.ring.specs.Number.{quad}
+use Rattle.ring.specs.Meaning.{quad}
 use Rattle.unitary.specs.Triples.{by-parts}
 use Rattle.unitary.specs.Acts.{small-turned, twice-turned}
 use borrow.Author.Needs.{needs}

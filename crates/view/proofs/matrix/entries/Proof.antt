@@ -4,7 +4,7 @@ use Prim.Native.Nat.{_^_}
 use lib.Dec.{lit≤}
 use Rattle.exact.specs.Meaning.Number.{ints, mulQ, negQ, omega^}
 use Rattle.exact.specs.Matrices.Sizes.{sized-le}
-use Rattle.ring.specs.Number.{quad}
+use Rattle.ring.specs.Meaning.{quad}
 use Rattle.view.specs.Meaning.Outcome.{Entry}
 use Rattle.view.specs.Size.{coefficients, small-neg, small-conj, small-power, z-size, w-size, at-most-60}
 use Rattle.view.proofs.matrix.entries.Statement.{statement}

@@ -4,7 +4,7 @@ use Prim.Native.Nat.{_^_}
 use lib.IntN.{pos}
 use Rattle.exact.specs.Algebra.Omega.{quad-path}
 use Rattle.exact.specs.Whole.Machine.{arg, lit, _∸_}
-use Rattle.ring.specs.Number.{quad}
+use Rattle.ring.specs.Meaning.{quad}
 use Rattle.ring.specs.Code.{fits₁, is₁}
 use Rattle.view.specs.Size.{coefficients}
 use Rattle.view.proofs.Numbers.{minus}

@@ -4,7 +4,7 @@ use Prim.Native.Nat.{_≤_, _-_, _^_}
 use native.Mathlib.Omega.{arith}
 use Rattle.exact.specs.Meaning.Number.{ints, mulQ, omega^}
 use Rattle.exact.specs.Matrices.Sizes.{sized-le}
-use Rattle.ring.specs.Number.{quad}
+use Rattle.ring.specs.Meaning.{quad}
 use Rattle.view.specs.Size.{coefficients, small-power}
 use Rattle.view.proofs.Numbers.{no-turn, one-more, all-turns}
 use Rattle.view.proofs.number.mul_by_omega_power.Statement.{statement}

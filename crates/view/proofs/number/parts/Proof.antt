@@ -5,7 +5,7 @@ use lib.IntN.{_+ℤ_, _-ℤ_}
 use mir.Syntax.{w64}
 use Rattle.exact.specs.Meaning.Number.{Sized}
 use Rattle.exact.specs.Whole.Machine.{held, arg, _∔_, _∸_}
-use Rattle.ring.specs.Number.{quad}
+use Rattle.ring.specs.Meaning.{quad}
 use Rattle.ring.specs.Code.{fits₁, is₁}
 use Rattle.ring.specs.declared.ZOmega.{ZOmega}
 use Rattle.view.specs.Meaning.Surd.{over, real, imaginary}

@@ -1,21 +1,14 @@
--- What jobs 3 and 5 promise: document 01's refusals in their order, or the answer in the lent bytes; and that two allowed outcomes are equal.
--- Assumes nothing.
-use mathlib.Core.Path.{_≡_, sym, _∙_, ap}
+-- What jobs 3 and 5 promise: document 01's refusals in their order, or the answer in the lent bytes.
 use mathlib.Core.List.{List}
 use Prim.Native.Nat.{ℕ}
 use lib.ListN.{length}
 use Rattle.exact.specs.Meaning.Matrix.{Same}
 use Rattle.exact.specs.Meaning.Word.{Letter as Gate, word, tees, bytes, job3, Spelled}
-use Rattle.exact.specs.Meaning.Normal.{NormalOf, PhaseFree, lessFinalW}
+use Rattle.exact.specs.Meaning.Normal.{NormalOf, PhaseFree}
 use Rattle.exact.specs.Meaning.Limits.{Accepted}
 use Rattle.exact.specs.Meaning.Outcome.{Refusals, none, _then_, Outcome}
 use Rattle.exact.specs.Meaning.Lent.{lent, untouched, Writes}
 use Rattle.exact.specs.Meaning.Refusals.{long, letter, room}
-use Rattle.exact.specs.Matrices.Same.{Same-sym, Same-trans}
-use Rattle.exact.specs.Unique.Normal.{unique}
-use Rattle.exact.specs.Outcomes.Ladder.{Only, one-outcome}
-use Rattle.exact.specs.Outcomes.Places.{one-plain, one-letter, one-spelled, one-normal}
-use Rattle.exact.specs.Outcomes.Lent.{one-written}
 use Rattle.normal_form.specs.declared.Written.{Written}
 
 -- ---- the answer to a word u
@@ -49,22 +42,3 @@ NormaliseOutcome w old r new = WordOutcome Normalises w old r new
 
 abbrev pub PhaseFreeOutcome : List ℕ → List ℕ → Written → List ℕ → Type 0
 PhaseFreeOutcome w old r new = WordOutcome Shortens w old r new
-
--- ---- an answer is the only one
-pub normalises-single : (u : List Gate) → Only (Normalises u)
-normalises-single u = one-normal (word u)
-
-pub shortens-single : (u : List Gate) → Only (Shortens u)
-shortens-single u v v′ p q = sym (p .phase-free .less) ∙ ap lessFinalW whole ∙ q .phase-free .less
-  where
-    whole : p .whole ≡ q .whole
-    whole = unique (p .phase-free .normal) (q .phase-free .normal) (Same-trans (Same-sym (p .same)) (q .same))
-
--- ---- two allowed outcomes are equal
-pub outcome-unique : {Answer : List Gate → List Gate → Type 0} → ((u : List Gate) → Only (Answer u))
-    → (w old : List ℕ) (r : Written) (new : List ℕ) (r′ : Written) (new′ : List ℕ)
-    → WordOutcome Answer w old r new → WordOutcome Answer w old r′ new′ → lent r new ≡ lent r′ new′
-outcome-unique {Answer} one w old r new r′ new′ =
-    one-outcome (untouched refused old) (Writes bytes counts (Spelled Answer w) old)
-    (wordRefusals Answer w old) (one-plain, (one-letter, (one-plain, tt)))
-    (λ h. one-written bytes counts (Spelled Answer w) old (one-spelled Answer one w)) (lent r new) (lent r′ new′)

@@ -1,6 +1,5 @@
 -- What the bench program answers, for every input: the text of refusal 8 where the bytes are no right record, else that of what job 4 says of its
--- numbers, in which refusal 7 has no place; and that two allowed answers are equal. Assumes nothing.
-use mathlib.Core.Path.{_≡_, subst}
+-- numbers, in which refusal 7 has no place.
 use mathlib.Core.List.{List, []}
 use Prim.Native.Nat.{ℕ}
 use lib.ListN.{length}
@@ -13,11 +12,6 @@ use Rattle.exact.specs.Meaning.Outcome.{Outcome, none, _then_}
 use Rattle.exact.specs.Meaning.Lent.{Lent, lent, over, Writes}
 use Rattle.exact.specs.Meaning.Refusals.{handedIn, checks, malformed}
 use Rattle.exact.specs.Meaning.Record.{Numbers, RightRecord, answerText}
-use Rattle.exact.specs.Outcomes.Ladder.{Only, one-outcome}
-use Rattle.exact.specs.Outcomes.Places.{one-plain, one-normal}
-use Rattle.exact.specs.Outcomes.Checked.{checks-one}
-use Rattle.exact.specs.Outcomes.Lent.{one-written}
-use Rattle.record.specs.RecordLaws.{record-once}
 
 -- ---- what is printed: its size, and the lent bytes at the end
 abbrev pub printed : List ℕ → List ℕ → Lent ℕ
@@ -48,20 +42,3 @@ pub record OfRecord (s old : List ℕ) (r : Lent ℕ) : Type 0 where
 
 abbrev pub BenchOutcome : List ℕ → List ℕ → ℕ → List ℕ → Type 0
 BenchOutcome s old size new = Outcome (refused old) (OfRecord s old) (malformed s then none) (lent size new)
-
--- ---- two allowed answers are equal
-one-numbers : (x : Numbers) (old : List ℕ) → Only (NumbersOutcome x old)
-one-numbers x old =
-    one-outcome (refused old) (Writes wordText wordSize (NormalOf (asked x)) old) (checks (x .k) (x .z) (x .w)) (checks-one (x .k) (x .z) (x .w))
-    (λ h. one-written wordText wordSize (NormalOf (asked x)) old (one-normal (asked x)))
-
-one-record : (s old : List ℕ) → Only (OfRecord s old)
-one-record s old r t x y =
-    one-numbers (y .numbers) old r t
-    (subst (λ (n : Numbers). NumbersOutcome n old r) (record-once s (x .numbers) (y .numbers) (x .right) (y .right)) (x .outcome)) (y .outcome)
-
-module _ (s old : List ℕ) (size : ℕ) (new : List ℕ) (size′ : ℕ) (new′ : List ℕ) where
-  pub bench-unique : BenchOutcome s old size new → BenchOutcome s old size′ new′ → lent size new ≡ lent size′ new′
-  bench-unique =
-      one-outcome (refused old) (OfRecord s old) (malformed s then none) (one-plain, tt) (λ h. one-record s old) (lent size new)
-      (lent size′ new′)

@@ -9,17 +9,17 @@ use Rattle.exact.specs.Meaning.Word.{Letter}
 use Rattle.exact.specs.Meaning.Lent.{Lent}
 use Rattle.unitary.specs.declared.Checked.{Checked}
 use Rattle.unitary.specs.declared.FromGates.{FromGates}
-use Rattle.unitary.specs.Outcomes.{ReduceOutcome, MatrixOutcome}
+use Rattle.unitary.specs.Meaning.{ReduceOutcome, MatrixOutcome}
 use Rattle.normal_form.specs.declared.Written.{Written}
-use Rattle.normal_form.specs.Outcome.{WordOutcome}
-use Rattle.clifford.specs.Job6.{reduced, Product, Inverse, Split}
+use Rattle.normal_form.specs.Meaning.{WordOutcome}
+use Rattle.clifford.specs.Meaning.{reduced, Product, Inverse, Split}
 use Rattle.clifford.specs.declared.Clifford.{Clifford}
 use Rattle.synthesis_of_clifford_t.specs.declared.Synthesis.{Synthesis}
-use Rattle.synthesis_of_clifford_t.specs.Outcome.{SynthesiseOutcome}
+use Rattle.synthesis_of_clifford_t.specs.Meaning.{SynthesiseOutcome}
 use Rattle.qasm.specs.declared.Written.{Written as Converted}
 use Rattle.view.specs.declared.Answer.{Answer}
 use Rattle.view.specs.Meaning.Outcome.{ViewOutcome}
-use Rattle.handed.specs.Arrays.{zOf, wOf, ten, eightOf, counts, countsOf, countsIn, fourOf, fiveOf}
+use Rattle.handed.specs.Meaning.{zOf, wOf, ten, eightOf, counts, countsOf, countsIn, fourOf, fiveOf}
 
 -- ---- triples: zw is z.a z.b z.c z.d w.a w.b w.c w.d; the ten are k, n, then zw
 -- job 1: the refusal, the ten

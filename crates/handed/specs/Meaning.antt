@@ -7,7 +7,7 @@ use lib.ListN.{getD}
 use Rattle.ring.specs.declared.ZOmega.{ZOmega}
 use Rattle.unitary.specs.declared.DOmegaUnitary.{DOmegaUnitary}
 use Rattle.normal_form.specs.declared.Written.{Written}
-use Rattle.clifford.specs.Job6.{axisNumber}
+use Rattle.clifford.specs.Meaning.{axisNumber}
 use Rattle.clifford.specs.declared.Clifford.{Clifford}
 use Rattle.clifford.specs.declared.Coset.{Coset}
 use Rattle.synthesis_of_clifford_t.specs.declared.Synthesis.{Synthesis}

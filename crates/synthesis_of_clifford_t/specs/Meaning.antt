@@ -1,6 +1,4 @@
--- What job 4 promises: document 01's refusals in their order, or the normal word of the triple's matrix in the lent bytes; and that two allowed
--- outcomes are equal. Assumes nothing.
-use mathlib.Core.Path.{_≡_}
+-- What job 4 promises: document 01's refusals in their order, or the normal word of the triple's matrix in the lent bytes.
 use mathlib.Core.List.{List}
 use Prim.Native.Nat.{ℕ}
 use lib.IntN.{ℤ}
@@ -13,12 +11,9 @@ use Rattle.exact.specs.Meaning.Limits.{Accepted}
 use Rattle.exact.specs.Meaning.Outcome.{Refusals, Outcome, none, _then_, _also_}
 use Rattle.exact.specs.Meaning.Lent.{lent, untouched, Writes}
 use Rattle.exact.specs.Meaning.Refusals.{checks, room}
-use Rattle.exact.specs.Outcomes.Ladder.{one-outcome}
-use Rattle.exact.specs.Outcomes.Places.{one-plain, one-normal}
-use Rattle.exact.specs.Outcomes.Lent.{one-written}
-use Rattle.ring.specs.Number.{quad}
+use Rattle.ring.specs.Meaning.{quad}
 use Rattle.ring.specs.declared.ZOmega.{ZOmega}
-use Rattle.unitary.specs.Triples.{given}
+use Rattle.unitary.specs.Meaning.{given}
 use Rattle.synthesis_of_clifford_t.specs.declared.Synthesis.{Synthesis}
 
 abbrev pub refused : ℕ → ℕ → Synthesis
@@ -37,10 +32,3 @@ module _ (k : ℤ) (n : ℕ) (z w : ZOmega) (old : List ℕ) where
 
   abbrev pub SynthesiseOutcome : Synthesis → List ℕ → Type 0
   SynthesiseOutcome r new = Outcome (untouched refused old) (Writes bytes counts (NormalOf asked) old) refusals (lent r new)
-
-  -- two allowed outcomes are equal
-  pub synthesise-unique : (r : Synthesis) (new : List ℕ) (r′ : Synthesis) (new′ : List ℕ) → SynthesiseOutcome r new → SynthesiseOutcome r′ new′
-      → lent r new ≡ lent r′ new′
-  synthesise-unique r new r′ new′ =
-      one-outcome (untouched refused old) (Writes bytes counts (NormalOf asked) old) refusals (one-plain, (one-plain, (one-plain, (one-plain, tt))))
-      (λ h. one-written bytes counts (NormalOf asked) old (one-normal asked)) (lent r new) (lent r′ new′)
