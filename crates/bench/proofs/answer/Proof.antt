@@ -1,5 +1,4 @@
 -- `bench::answer` meets its contract: the answer to the bytes that are there is the answer to the whole input. Assumes nothing.
-use mathlib.Core.Path.{sym}
 use lib.Seq.{length-take-le}
 use Rattle.dunrossel.specs.Beginning.{answered}
 use Rattle.dunrossel.specs.Record.{bench-fits, bench-counted}
