@@ -1,4 +1,6 @@
 -- `bench::answer` meets its contract: the answer to the bytes that are there is the answer to the whole input. Assumes nothing.
+use mathlib.Core.Path.{sym}
+use native.Mathlib.Omega.{arith}
 use lib.Seq.{length-take-le}
 use Rattle.dunrossel.specs.Beginning.{answered}
 use Rattle.dunrossel.specs.Record.{bench-fits, bench-counted}
@@ -7,7 +9,7 @@ use Rattle.bench.proofs.answer.Statement.{statement}
 use Rattle.bench.proofs.answer.Tie as tie
 
 slice-aggregate-dunrossel-bench : tie.Need-slice-aggregate-dunrossel-bench
-slice-aggregate-dunrossel-bench c = search (needs, length-take-le)
+slice-aggregate-dunrossel-bench c = sym (length-take-le _ _ (omega arith))
 
 dunrossel-bench-requires : tie.Need-dunrossel-bench-requires
 dunrossel-bench-requires c κs = search needs
