@@ -54,8 +54,8 @@ fn rooms() {
 }
 
 fn long(label: &[u8], word: &[u8]) {
-    let mut first = [b'.'; 376];
-    let mut second = [b'.'; 376];
+    let mut first = [b'.'; exact::ENOUGH];
+    let mut second = [b'.'; exact::ENOUGH];
     shown_as(label, word, &mut first, &mut second);
     text(b"\n");
 }

@@ -84,7 +84,7 @@ fn answers() {
     answer(0, b"HTHTI", 2);
     answer(5, b"HTHTI", 2);
     answer(8, b"", 0);
-    let word = [b'W'; 376];
+    let word = [b'W'; exact::ENOUGH];
     answer(255, &word, 18446744073709551615);
     answer(0, &word, 18446744073709551615);
 }

@@ -171,3 +171,6 @@ bench-fits s old size new =
     (λ h r x. always (refused old) (Writes wordText wordSize (NormalOf (asked (x .numbers))) old) There (λ n p. printed-there old (answerText n [] 0))
     (checks (x .numbers .k) (x .numbers .z) (x .numbers .w)) (λ g l y. rw (y .is) (printed-there old (wordText (y .v)))) r
     (x .outcome)) (lent size new)
+
+pub bench-counted : (s old : List ℕ) (size : ℕ) (new : List ℕ) → BenchOutcome s old size new → size ≡ length (take size new)
+bench-counted s old size new o = sym (length-take-le size new (bench-fits s old size new o))

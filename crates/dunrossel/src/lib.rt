@@ -170,6 +170,6 @@ pub extern "C" fn dunrossel_bench(text: &[u8], out: &mut [u8; 512]) -> usize
     if r.refusal != 0 {
         return record::write(r.refusal, b"", 0, out);
     }
-    let mut word = [0u8; 376];
+    let mut word = exact::word_buffer();
     answer_record(r, &mut word, out)
 }

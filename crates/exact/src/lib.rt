@@ -1,4 +1,7 @@
 // Document 01's limits, and the refusals of documents 01 and 02 by number. The mathematics that every contract cites stands in specs/.
+ghost use mathlib.Core.Path.{_≡_};
+ghost use lib.ListN.{length};
+ghost use Rattle.exact.specs.Meaning.Limits.{enough};
 
 // A word's letters, and a reading's syllables.
 pub const LONGEST: usize = 4096;
@@ -30,3 +33,10 @@ pub const RECORD: u8 = 8;
 pub const STATEMENT: u8 = 9;
 
 pub const PHASE: u8 = 10;
+
+// Zeros, as many as are always enough, for a synthesised word.
+pub fn word_buffer() -> [u8; ENOUGH]
+    ensures { λ r. ⌜ enough ≡ length r ⌝ }
+{
+    [0; ENOUGH]
+}

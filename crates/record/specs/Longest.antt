@@ -1,4 +1,5 @@
--- A right record has at most 201 bytes, so that whoever has read one byte more can stop: the answer is 8 whatever follows. Assumes nothing.
+-- A right record has at most 201 bytes, and one has as many, so that whoever has read one byte more can stop, and no sooner: the answer is 8
+-- whatever follows. Assumes nothing.
 use mathlib.Core.Path.{_≡_, refl, ap}
 use mathlib.Core.List.{List, [], _∷_, _++_}
 use Prim.Native.Nat.{ℕ, suc, _+_, _≤_, _<_}
@@ -7,7 +8,7 @@ use lib.IntN.{ℤ, pos, negsuc}
 use lib.ListN.{length, take, length-append, length-take}
 use Rattle.exact.specs.Meaning.Number.{Ω}
 use Rattle.exact.specs.Meaning.Limits.{Record as Malformed}
-use Rattle.exact.specs.Meaning.Record.{Numbers, RightRecord, RingInRange, InRange, digits, text, line, four}
+use Rattle.exact.specs.Meaning.Record.{Numbers, RightRecord, RingInRange, InRange, digitsOf, digits, text, line, four, recordText}
 use Rattle.record.specs.Meaning.{refusedRecord, ReadOutcome}
 use Rattle.record.specs.Returns.{refuses}
 use Rattle.record.specs.Write.{digits-few}
@@ -65,7 +66,27 @@ right-short s x p =
       four-short (x .w) (p .w-in),
     )
 
--- what is longer is refused, and so is its start, once it is longer too
+-- ---- and one is as long: n is 255, every other number -2^63
+abbrev least : ℤ
+least = negsuc 9223372036854775807
+
+abbrev leasts : Ω
+leasts = record { a = least; b = least; c = least; d = least }
+
+abbrev pub longestNumbers : Numbers
+longestNumbers = record { k = least; n = 255; z = leasts; w = leasts }
+
+leasts-in : RingInRange leasts
+leasts-in = record { a-in = omega arith; b-in = omega arith; c-in = omega arith; d-in = omega arith }
+
+pub longest-right : RightRecord (recordText longestNumbers) longestNumbers
+longest-right = record { is = refl; k-in = omega arith; n-in = omega arith; z-in = leasts-in; w-in = leasts-in }
+
+pub longest-there : length (recordText longestNumbers) ≡ longestRecord
+unfolding digits digitsOf
+longest-there = refl
+
+-- ---- what is longer is refused, and so is its start, once it is longer too
 pub long-refused : (s : List ℕ) → longestRecord < length s → ReadOutcome s (refusedRecord Malformed 0)
 long-refused s h = refuses (λ x p. omega (arith, right-short s x p)) refl
 

@@ -7,15 +7,23 @@ use decimal::Natural;
 use decimal::Whole;
 use lines::Four;
 ghost use mathlib.Core.Path.{_≡_};
-ghost use Prim.Native.Nat.{_≤_};
+ghost use Prim.Native.Nat.{_+_, _≤_};
 ghost use lib.ListN.{length};
 ghost use Rattle.exact.specs.Meaning.Limits.{enough, Record as Malformed};
 ghost use Rattle.exact.specs.Meaning.Record.{answerLines};
 ghost use Rattle.record.specs.Meaning.{refusedRecord, ReadOutcome, WriteOutcome};
+ghost use Rattle.record.specs.Longest.{longestRecord};
 ghost use Rattle.lent.specs.Written.{Written};
 
 // The bytes of the longest right record: whoever has read more can stop, and the answer is 8.
-pub const LONGEST_RECORD: usize = 201;
+const LONGEST_RECORD: usize = 201;
+
+// Zeros, one more than any right record has bytes, to read an input into.
+pub fn input_buffer() -> [u8; LONGEST_RECORD + 1]
+    ensures { λ r. ⌜ longestRecord + 1 ≡ length r ⌝ }
+{
+    [0; LONGEST_RECORD + 1]
+}
 
 // What was read: refusal 0 and the numbers, or refusal 8 and zeros.
 pub struct Record {

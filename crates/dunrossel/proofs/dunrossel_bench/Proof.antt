@@ -16,6 +16,9 @@ write-requires c κs = search needs
 returns : tie.Need-returns
 returns c = search bench-malformed
 
+word-buffer-requires : tie.Need-word-buffer-requires
+word-buffer-requires c κs = search needs
+
 slice-aggregate-answer-record : tie.Need-slice-aggregate-answer-record
 slice-aggregate-answer-record c = search needs
 
@@ -33,6 +36,7 @@ dunrossel-bench-spec =
     slice-aggregate-write
     write-requires
     returns
+    word-buffer-requires
     slice-aggregate-answer-record
     answer-record-requires
     returns-2)
