@@ -2,5 +2,6 @@
 pub mod Outcome
 pub mod Ways
 pub mod Answers
+pub mod Emptied
 pub mod Theorems
 pub mod Skipped
