@@ -1,7 +1,7 @@
 -- A syllable put into a buffer: its first letter, its second and its last. Assumes nothing.
 use mathlib.Core.Path.{_≡_, refl, sym, _∙_, ap, subst}
 use mathlib.Core.List.{List, [], _∷_}
-use Prim.Native.Nat.{ℕ, _+_, _-_, _/_, _≤_, _<_}
+use Prim.Native.Nat.{ℕ, _+_, _-_, _*_, _/_, _≤_, _<_}
 use native.Mathlib.Nat.{add-zero}
 use native.Mathlib.Omega.{arith}
 use lib.ListN.{length, set, length-set}
@@ -10,20 +10,15 @@ use Rattle.exact.specs.Meaning.Word.{bytes}
 use Rattle.reading.specs.declared.Syllable.{Syllable}
 use Rattle.reading.specs.declared.Syllable.the-variants as Syllable
 use Rattle.reading.specs.Syllables.{syllableNumber, syllableWord, syllable-size}
+use Rattle.writing.specs.Runs.{pastOf}
 use Rattle.writing.specs.Put.{Put, put-none, put-one, put-more}
 
--- the first letter, and the second or the only one
-abbrev pub firstOf : Syllable → ℕ
-firstOf Syllable.I = 0
-firstOf Syllable.T = 84
-firstOf Syllable.HT = 72
-firstOf Syllable.SHT = 83
+-- the first of n letters, and the second or the only one
+abbrev pub firstOf : ℕ → ℕ
+firstOf n = 84 - 12 * pastOf n 2 + 11 * pastOf n 3
 
-abbrev pub secondOf : Syllable → ℕ
-secondOf Syllable.I = 0
-secondOf Syllable.T = 84
-secondOf Syllable.HT = 84
-secondOf Syllable.SHT = 72
+abbrev pub secondOf : ℕ → ℕ
+secondOf n = 84 - 12 * pastOf n 3
 
 pub spelt-size : {s t : Syllable} → s ≡ t → length (syllableWord s) ≡ length (syllableWord t)
 spelt-size e = ap (λ (u : Syllable). length (syllableWord u)) e
@@ -81,14 +76,14 @@ module _ (old : List ℕ) (at : ℕ) where
   pub spelt : (s : Syllable) (n a b : ℕ)
       → n ≡ syllableNumber s
       → (n ≡ 0 → ⊥)
-      → a ≡ firstOf s
-      → b ≡ secondOf s
+      → a ≡ firstOf n
+      → b ≡ secondOf n
       → at + length (syllableWord s) ≤ length old
       → Put old at (bytes (syllableWord s)) (set (set (set old at a) (at + n / 2) b) (at + (n - 1)) 84) (at + n)
   spelt Syllable.I n a b e f g h l = absurd (f e)
-  spelt Syllable.T n a b e f g h l = rw (e, g, h) (put-T l)
-  spelt Syllable.HT n a b e f g h l = rw (e, g, h) (put-HT l)
-  spelt Syllable.SHT n a b e f g h l = rw (e, g, h) (put-SHT l)
+  spelt Syllable.T n a b e f g h l = rw (g, h, e) (put-T l)
+  spelt Syllable.HT n a b e f g h l = rw (g, h, e) (put-HT l)
+  spelt Syllable.SHT n a b e f g h l = rw (g, h, e) (put-SHT l)
 
 -- the places are within the syllable
 module _ (s : Syllable) (n at : ℕ) (old : List ℕ) (e : n ≡ syllableNumber s) (l : at + length (syllableWord s) ≤ length old) where

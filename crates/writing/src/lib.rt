@@ -164,27 +164,21 @@ fn letters_in(s: Syllable) -> usize
     }
 }
 
-fn first_letter(s: Syllable) -> u8
-    ensures { λ r. ⌜ r ≡ firstOf s ⌝ }
+// Its first letter, by their number: H is 12 below T, and S is 11 above H.
+fn first_letter(n: usize) -> u8
+    ensures { λ r. ⌜ r ≡ firstOf n ⌝ }
 {
-    match s {
-        Syllable::I => 0,
-        Syllable::T => b'T',
-        Syllable::HT => b'H',
-        Syllable::SHT => b'S',
-    }
+    let h = past(n, 2) as u8;
+    let s = past(n, 3) as u8;
+    b'T' - 12 * h + 11 * s
 }
 
-// The second letter, or the only one.
-fn second_letter(s: Syllable) -> u8
-    ensures { λ r. ⌜ r ≡ secondOf s ⌝ }
+// Its second letter, or the only one.
+fn second_letter(n: usize) -> u8
+    ensures { λ r. ⌜ r ≡ secondOf n ⌝ }
 {
-    match s {
-        Syllable::I => 0,
-        Syllable::T => b'T',
-        Syllable::HT => b'T',
-        Syllable::SHT => b'H',
-    }
+    let h = past(n, 3) as u8;
+    b'T' - 12 * h
 }
 
 // Its first letter, its second and its last, of which some are the same: no branch on the syllable.
@@ -196,8 +190,8 @@ fn put_syllable(buf: &mut [u8], at: usize, s: Syllable) -> usize
     if n == 0 {
         return at;
     }
-    buf[at] = first_letter(s);
-    buf[at + n / 2] = second_letter(s);
+    buf[at] = first_letter(n);
+    buf[at + n / 2] = second_letter(n);
     buf[at + (n - 1)] = b'T';
     at + n
 }
