@@ -37,7 +37,8 @@ tee-pops a r false [] e h = absurd (omega arith)
 pub meets-pops : (l : Letter) (st : State) → Meets l st → sizeOf (read l st) + 1 ≡ sizeOf st
 meets-pops l st m =
     subst (λ x. sizeOf (read x st) + 1 ≡ sizeOf st) (sym (m .is-T))
-    (tee-pops (tconjC (st .q) .axis) (tconjC (st .q) .rest) (st .lead) (st .stack) (m .nothing-between) (m .some))
+    (tee-pops (tconjC (st .q) .axis) (tconjC (st .q) .rest) (st .lead) (st .stack) (m .nothing-between)
+    (omega (arith, m .some)))
 
 tee-axis : (a : Axis) (r : Clifford) (b : Bool) (ss : List Syllable) → sizeOf (tee a r b ss) < sizeOf (record { lead = b; stack = ss; q = r })
     → a ≡ Axis.I
