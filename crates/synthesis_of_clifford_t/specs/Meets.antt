@@ -5,8 +5,8 @@ use mathlib.Core.Bool.{Bool, true, false}
 use mathlib.Core.List.{List, [], _∷_, _++_, append-assoc}
 use Prim.Native.Nat.{ℕ, _+_, _≤_, _<_}
 use native.Mathlib.Omega.{arith}
-use Rattle.exact.specs.Meaning.Word.{Letter, I, H, S, X, W, T′, word, tees}
-use Rattle.exact.specs.Meaning.Normal.{Syllable, HT, SHT, Tail, tailWord, orI, spell}
+use Rattle.exact.specs.Meaning.Word.{Letter, I, H, S, X, W, T′, tees}
+use Rattle.exact.specs.Meaning.Normal.{Syllable, HT, SHT, tailWord, orI, spell}
 use Rattle.exact.specs.Meaning.Triple.{Triple}
 use Rattle.exact.specs.Matrices.Same.{Same-sym}
 use Rattle.exact.specs.Unique.Tails.{tees-append, tail-tees}
