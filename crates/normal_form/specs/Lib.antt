@@ -3,5 +3,6 @@ pub mod Meaning
 pub mod Unique
 pub mod Ways
 pub mod Answers
+pub mod Emptied
 pub mod Theorems
 pub mod Skipped

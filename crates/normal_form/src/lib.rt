@@ -21,9 +21,6 @@ pub struct Written {
     pub tees: usize,
 }
 
-// The most letters that are read in a short array, which is emptied sooner than the long one.
-const SHORT: usize = 64;
-
 fn refused(number: u8, place: usize) -> Written
     ensures { λ r. ⌜ r ≡ refused number place ⌝ }
 {
@@ -74,19 +71,6 @@ fn read_and_write(
     }
 }
 
-// The answer to a word that is not too long, by an array as long as it needs.
-fn answer_by(table: &[u8], word: &[u8], phase: bool, buf: &mut [u8]) -> Written
-    requires { ⌜ Right (now table) ⌝ ∗ ⌜ length (now word) ≤ 4096 ⌝ }
-    ensures { λ r. ⌜ WordOutcome (Answers phase) (now (word .entry)) (now (buf .entry)) r (now (buf .exit)) ⌝ }
-{
-    if word.len() > SHORT {
-        let mut items = [EMPTY; 4096];
-        return read_and_write(table, &mut items, word, phase, buf);
-    }
-    let mut items = [EMPTY; 64];
-    read_and_write(table, &mut items, word, phase, buf)
-}
-
 // Jobs 3 and 5: with the final W letters, or without.
 fn answer(word: &[u8], phase: bool, buf: &mut [u8]) -> Written
     ensures { λ r. ⌜ WordOutcome (Answers phase) (now (word .entry)) (now (buf .entry)) r (now (buf .exit)) ⌝ }
@@ -95,7 +79,8 @@ fn answer(word: &[u8], phase: bool, buf: &mut [u8]) -> Written
         return refused(exact::LONG, 0);
     }
     let table = TABLE;
-    answer_by(&table, word, phase, buf)
+    let mut items = [EMPTY; 4096];
+    read_and_write(&table, &mut items, word, phase, buf)
 }
 
 // Job 3: the normal word with the word's matrix.

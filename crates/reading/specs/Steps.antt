@@ -9,6 +9,8 @@ use borrow.Author.Tests.{ne-eqb}
 use lib.Dec.{T, ltb, ltb→lt, eqb, eqb→eq}
 use lib.ListN.{getD, length}
 use mir.Facts.{and-yes}
+use mir.Syntax.{w8}
+use mir.Val.{Fits as FitsIn}
 use Rattle.exact.specs.Meaning.Word.{Letter, I, H, S, X, W, T′, job3}
 use Rattle.exact.specs.Cases.Letters.{letterOf}
 use Rattle.clifford.specs.declared.Axis.{Axis}
@@ -78,6 +80,14 @@ fits-ranged t h = record { a-few = omega (arith, h .code-few); b-few = omega ari
 -- the Clifford that an entry gives, and a phase more
 abbrev pub moved : Tail → ℕ → ℕ → Tail
 moved t e k = record { code = e % 32; phase = (t .phase + e / 32 + k) % 8 }
+
+-- both are bytes
+module _ (t r : Tail) (e k : ℕ) (h : r ≡ moved t e k) where
+  pub code-narrow : FitsIn w8 (r .code / 8)
+  code-narrow = rw h (omega arith)
+
+  pub phase-narrow : FitsIn w8 (r .phase)
+  phase-narrow = rw h (omega arith)
 
 abbrev gives : ℕ → ℕ → ℕ → Clifford → Bool
 gives e k p q = ltb (e % 32) 24 && eqClifford (cliffordAt (e % 32) ((p + e / 32 + k) % 8)) q

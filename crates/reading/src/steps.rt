@@ -8,10 +8,11 @@ use clifford::Axis;
 use clifford::Clifford;
 use clifford::Coset;
 
-// The Clifford (a,b,c,d) by its code 8a + 4b + c and its phase d.
+// The Clifford (a,b,c,d) by its code 8a + 4b + c and its phase d. They are no bytes: two bytes the compiler copies as one number of 16 bits,
+// and it would take that apart and put it together again at each letter.
 pub struct Tail {
-    pub code: u8,
-    pub phase: u8,
+    pub code: usize,
+    pub phase: usize,
 }
 
 // The kind is 0 where the syllables stay, 1 where a T meets the last of them, 2 where HT is added and 3 where SHT is.
@@ -49,7 +50,7 @@ pub fn number(table: &[u8], b: u8) -> u8
     table[LETTERS + (b - 72) as usize]
 }
 
-fn axis_at(a: u8) -> Axis
+fn axis_at(a: usize) -> Axis
     ensures { λ r. ⌜ r ≡ axisAt a ⌝ }
 {
     match a {
@@ -66,8 +67,8 @@ impl Tail {
         ensures { λ r. ⌜ r ≡ moved self entry more ⌝ }
     {
         Tail {
-            code: entry % 32,
-            phase: (self.phase + entry / 32 + more) % 8,
+            code: (entry % 32) as usize,
+            phase: (self.phase + (entry / 32) as usize + more as usize) % 8,
         }
     }
 
@@ -79,8 +80,8 @@ impl Tail {
         let pair = first as usize * 6 + second as usize;
         let row = table[PAIRS + pair];
         let change = table[CHANGES + pair];
-        let kind = table[KINDS + change as usize * 24 + self.code as usize];
-        let entry = table[(row % 32) as usize * 24 + self.code as usize];
+        let kind = table[KINDS + change as usize * 24 + self.code];
+        let entry = table[(row % 32) as usize * 24 + self.code];
         let tail = self.moved(entry, row / 32);
         Step {
             kind: kind,
@@ -93,7 +94,7 @@ impl Tail {
         requires { ⌜ Right (now table) ⌝ ∗ ⌜ Fits self ⌝ ∗ ⌜ syllable < 4 ⌝ }
         ensures { λ r. ⌜ Gained syllable self r ⌝ }
     {
-        let entry = table[SYLLABLES + syllable as usize * 24 + self.code as usize];
+        let entry = table[SYLLABLES + syllable as usize * 24 + self.code];
         self.moved(entry, 0)
     }
 
@@ -102,15 +103,15 @@ impl Tail {
         requires { ⌜ Right (now table) ⌝ ∗ ⌜ Fits self ⌝ }
         ensures { λ r. ⌜ r ≡ splitC (tailOf self) ⌝ }
     {
-        let entry = table[AXES + self.code as usize];
+        let entry = table[AXES + self.code];
         let rest = self.moved(entry, 0);
         let code = rest.code;
         let axis = axis_at(self.code / 8);
         let behind = Clifford {
-            a: code / 8,
-            b: code / 4 % 2,
-            c: code % 4,
-            d: rest.phase,
+            a: (code / 8) as u8,
+            b: (code / 4 % 2) as u8,
+            c: (code % 4) as u8,
+            d: rest.phase as u8,
         };
         Coset {
             axis: axis,

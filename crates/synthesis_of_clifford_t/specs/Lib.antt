@@ -7,6 +7,7 @@ pub mod Steps
 pub mod Counts
 pub mod Synthesised
 pub mod Tees
+pub mod Meets
 pub mod Loop
 pub mod Cases
 pub mod Unique

@@ -116,15 +116,18 @@ module _ (t : Triple) (k j : ℕ) (r : Ready t) (e : t .k ≡ suc k) (f : next t
       lower : Matrix
       lower = word (S ∷ S ∷ S ∷ W ∷ []) · y
 
-      two : Same (word (S ∷ H ∷ S ∷ H ∷ []) · y) (entries t)
+      both : List Letter
+      both = block 2 ++ block 2
+
+      two : Same (word both · y) (entries t)
       two = rw (g, h) at both-same
 
       written : Same (entries (act H t)) lower
       written =
           Same-trans (Same-of (acts H t))
           (Same-trans (Same-mul (Same-refl (letter H)) (Same-sym two))
-          (Same-trans (Same-of (sym (mul-assoc (letter H) (word (S ∷ H ∷ S ∷ H ∷ [])) y)))
-          (Same-mul (same-by (word (H ∷ S ∷ H ∷ S ∷ H ∷ [])) (word (S ∷ S ∷ S ∷ W ∷ [])) tt) (Same-refl y))))
+          (Same-trans (Same-of (sym (mul-assoc (letter H) (word both) y)))
+          (Same-mul (same-by (word (H ∷ both)) (word (S ∷ S ∷ S ∷ W ∷ [])) tt) (Same-refl y))))
 
 -- ---- parities that show every T
 -- a T leaves the first, SH after it the second

@@ -51,16 +51,16 @@ endSize e = e .first + e .h + e .i + e .x + e .s + e .w
 
 -- ---- the letter at a place
 -- where each run ends
-abbrev toH : Ending → ℕ
+abbrev pub toH : Ending → ℕ
 toH e = e .first + e .h
 
-abbrev toI : Ending → ℕ
+abbrev pub toI : Ending → ℕ
 toI e = toH e + e .i
 
-abbrev toX : Ending → ℕ
+abbrev pub toX : Ending → ℕ
 toX e = toI e + e .x
 
-abbrev toS : Ending → ℕ
+abbrev pub toS : Ending → ℕ
 toS e = toX e + e .s
 
 -- and the letter there
@@ -119,26 +119,6 @@ letter-in e j h = run-next (e .first) (e .first) S (fromH e) j j (atH e j) refl 
 
     afterS : e .first ≤ j → atH e j ≡ getD (bytes (fromH e)) (j - e .first) 0
     afterS k = run-next (toH e) (e .h) H (fromI e) j (j - e .first) (atI e j) (omega (arith, k)) afterH
-
--- by the tests, one after the other
-module _ (e : Ending) (j : ℕ) where
-  pub is-first : j < e .first → 83 ≡ letterIn e j
-  is-first l = rw (lt-ltb j (e .first) l)
-
-  pub is-H : e .first ≤ j → j < toH e → 72 ≡ letterIn e j
-  is-H a l = rw (le-ltb j (e .first) a, lt-ltb j (toH e) l)
-
-  pub is-I : e .first ≤ j → toH e ≤ j → j < toI e → 73 ≡ letterIn e j
-  is-I a b l = rw (le-ltb j (e .first) a, le-ltb j (toH e) b, lt-ltb j (toI e) l)
-
-  pub is-X : e .first ≤ j → toH e ≤ j → toI e ≤ j → j < toX e → 88 ≡ letterIn e j
-  is-X a b c l = rw (le-ltb j (e .first) a, le-ltb j (toH e) b, le-ltb j (toI e) c, lt-ltb j (toX e) l)
-
-  pub is-S : e .first ≤ j → toH e ≤ j → toI e ≤ j → toX e ≤ j → j < toS e → 83 ≡ letterIn e j
-  is-S a b c d l = rw (le-ltb j (e .first) a, le-ltb j (toH e) b, le-ltb j (toI e) c, le-ltb j (toX e) d, lt-ltb j (toS e) l)
-
-  pub is-W : e .first ≤ j → toH e ≤ j → toI e ≤ j → toX e ≤ j → toS e ≤ j → 87 ≡ letterIn e j
-  is-W a b c d l = rw (le-ltb j (e .first) a, le-ltb j (toH e) b, le-ltb j (toI e) c, le-ltb j (toX e) d, le-ltb j (toS e) l)
 
 -- an empty tail is one I
 abbrev pub endingAt : Bool → Coset → Ending

@@ -7,9 +7,11 @@ ghost use lib.Dec.{eqb};
 ghost use lib.ListN.{length, replicate, take};
 ghost use Rattle.exact.specs.Meaning.Word.{bytes};
 ghost use Rattle.reading.specs.Steps.{Right, Fits, tailOf};
-ghost use Rattle.reading.specs.Syllables.{syllableWord};
+ghost use Rattle.reading.specs.Syllables.{syllableNumber, syllableWord};
+ghost use Rattle.writing.specs.Spelt.{firstOf, secondOf};
 ghost use Rattle.writing.specs.Put.{Put};
 ghost use Rattle.writing.specs.Endings.{essesOf, aitchesOf, endWord, endSize, Sized, letterIn, Ended};
+ghost use Rattle.writing.specs.Runs.{pastOf, runLetter};
 ghost use Rattle.writing.specs.Codes.{codesWord};
 use clifford::Axis;
 use reading::Syllable;
@@ -88,6 +90,27 @@ pub fn ending_of(table: &[u8], t: Tail, phase: bool) -> Ending
     }
 }
 
+// Whether a run that ends at a place lies before this one.
+fn past(j: usize, end: usize) -> usize
+    ensures { λ r. ⌜ (r ≡ pastOf j end) × (r ≤ 1) ⌝ }
+{
+    if j < end { 0 } else { 1 }
+}
+
+// The letter of each run: S, H, I, X, S and W.
+fn run_letter(run: usize) -> u8
+    ensures { λ r. ⌜ r ≡ runLetter run ⌝ }
+{
+    match run {
+        0 => b'S',
+        1 => b'H',
+        2 => b'I',
+        3 => b'X',
+        4 => b'S',
+        _ => b'W',
+    }
+}
+
 impl Ending {
     pub fn size(self) -> usize
         requires { ⌜ Sized (endSize self) ⌝ }
@@ -96,7 +119,7 @@ impl Ending {
         self.first + self.h + self.i + self.x + self.s + self.w
     }
 
-    // The letter at a place of the tail.
+    // The letter at a place of the tail, by how many of its runs end there or before: no branch on the letter.
     fn letter(self, j: usize) -> u8
         requires { ⌜ Sized (endSize self) ⌝ }
         ensures { λ r. ⌜ r ≡ letterIn self j ⌝ }
@@ -106,22 +129,7 @@ impl Ending {
         let i = h + self.i;
         let x = i + self.x;
         let s = x + self.s;
-        if j < first {
-            return b'S';
-        }
-        if j < h {
-            return b'H';
-        }
-        if j < i {
-            return b'I';
-        }
-        if j < x {
-            return b'X';
-        }
-        if j < s {
-            return b'S';
-        }
-        b'W'
+        run_letter(past(j, first) + past(j, h) + past(j, i) + past(j, x) + past(j, s))
     }
 }
 
@@ -145,23 +153,47 @@ pub fn put_times(buf: &mut [u8], at: usize, letter: u8, n: usize) -> usize
     at + n
 }
 
+fn letters_in(s: Syllable) -> usize
+    ensures { λ r. ⌜ r ≡ syllableNumber s ⌝ }
+{
+    match s {
+        Syllable::I => 0,
+        Syllable::T => 1,
+        Syllable::HT => 2,
+        Syllable::SHT => 3,
+    }
+}
+
+// Its first letter, by their number: H is 12 below T, and S is 11 above H.
+fn first_letter(n: usize) -> u8
+    ensures { λ r. ⌜ r ≡ firstOf n ⌝ }
+{
+    let h = past(n, 2) as u8;
+    let s = past(n, 3) as u8;
+    b'T' - 12 * h + 11 * s
+}
+
+// Its second letter, or the only one.
+fn second_letter(n: usize) -> u8
+    ensures { λ r. ⌜ r ≡ secondOf n ⌝ }
+{
+    let h = past(n, 3) as u8;
+    b'T' - 12 * h
+}
+
+// Its first letter, its second and its last, of which some are the same: no branch on the syllable.
 fn put_syllable(buf: &mut [u8], at: usize, s: Syllable) -> usize
     requires { ⌜ at + length (syllableWord s) ≤ length (now buf) ⌝ }
     ensures { λ r. ⌜ Put (now (buf .entry)) at (bytes (syllableWord s)) (now (buf .exit)) r ⌝ }
 {
-    match s {
-        Syllable::I => at,
-        Syllable::T => put_letter(buf, at, b'T'),
-        Syllable::HT => {
-            let a = put_letter(buf, at, b'H');
-            put_letter(buf, a, b'T')
-        }
-        Syllable::SHT => {
-            let a = put_letter(buf, at, b'S');
-            let b = put_letter(buf, a, b'H');
-            put_letter(buf, b, b'T')
-        }
+    let n = letters_in(s);
+    if n == 0 {
+        return at;
     }
+    buf[at] = first_letter(n);
+    buf[at + n / 2] = second_letter(n);
+    buf[at + (n - 1)] = b'T';
+    at + n
 }
 
 pub fn put_syllables(buf: &mut [u8], items: &[u8], count: usize) -> usize

@@ -2,6 +2,7 @@
 use mathlib.Core.Path.{refl}
 use borrow.Author.Needs.{needs}
 use Rattle.clifford.specs.Cliffords.{mulC, invC, tconjC}
+use Rattle.normal_form.specs.Emptied.{blank-by}
 use Rattle.normal_form.specs.Ways.{too-long}
 use Rattle.reading.specs.Steps.{right}
 use Rattle.normal_form.proofs.answer.Statement.{statement}
@@ -13,12 +14,15 @@ refused-requires c κs = search needs
 returns : tie.Need-returns
 returns c = too-long _ _ _ _ (search needs) (search needs)
 
-slice-aggregate-answer-by : tie.Need-slice-aggregate-answer-by
-slice-aggregate-answer-by c = search needs
+slice-aggregate-read-and-write : tie.Need-slice-aggregate-read-and-write
+slice-aggregate-read-and-write c = search needs
 
-answer-by-requires : tie.Need-answer-by-requires
+slice-aggregate-read-and-write-2 : tie.Need-slice-aggregate-read-and-write-2
+slice-aggregate-read-and-write-2 c = search needs
+
+read-and-write-requires : tie.Need-read-and-write-requires
 unfolding mulC invC tconjC
-answer-by-requires c κs = (right refl tt, search needs)
+read-and-write-requires c κs = (right refl tt, (blank-by _ tt, (search needs, search needs)))
 
 same-length : tie.Need-same-length
 same-length c = search needs
@@ -32,7 +36,8 @@ answer-spec =
     (tie.spec
     refused-requires
     returns
-    slice-aggregate-answer-by
-    answer-by-requires
+    slice-aggregate-read-and-write
+    slice-aggregate-read-and-write-2
+    read-and-write-requires
     same-length
     returns-2)

@@ -1,81 +1,73 @@
 -- `writing::put_syllable` meets its contract. Assumes nothing.
-use native.Mathlib.Omega.{arith}
 use borrow.Author.Needs.{needs}
-use Rattle.writing.specs.Spelt.{spelt-size, spelt-I, spelt-T, spelt-HT, spelt-SHT}
+use Prim.Native.Nat.{_+_, _≤_}
+use native.Mathlib.Omega.{arith}
+use denote.Ref.{now}
+use lib.ListN.{length}
+use Rattle.writing.specs.Spelt.{spelt-none, spelt, whole-room, first-there, second-there, last-there}
 use Rattle.writing.proofs.put_syllable.Statement.{statement}
 use Rattle.writing.proofs.put_syllable.Tie as tie
 
-enum-told : tie.Need-enum-told
-enum-told c = search needs
+-- of what was handed in, a, and its number of letters, n
+whole : (c : tie.After-second-letter)
+    → let n = c .before .before .before in
+    let a = n .before .before .args in
+    a .at + n .letters-in .result ≤ length (now (a .buf))
+whole c = search whole-room
 
-enum-told-2 : tie.Need-enum-told-2
-enum-told-2 c = search needs
-
-put-letter-requires : tie.Need-put-letter-requires
-put-letter-requires c κs = omega (arith, spelt-size (c .before .enum-told2 .given .1))
-
-enum-told-3 : tie.Need-enum-told-3
-enum-told-3 c = search needs
-
-put-letter-requires-2 : tie.Need-put-letter-requires-2
-put-letter-requires-2 c κs = omega (arith, spelt-size (c .before .enum-told3 .given .1))
-
-put-letter-requires-3 : tie.Need-put-letter-requires-3
-put-letter-requires-3 c κs = omega (arith, spelt-size (c .before .before .before .before .before .enum-told3 .given .1))
-
-enum-told-4 : tie.Need-enum-told-4
-enum-told-4 c = search needs
-
-put-letter-requires-4 : tie.Need-put-letter-requires-4
-put-letter-requires-4 c κs = omega (arith, spelt-size (c .before .enum-told4 .given .1))
-
-put-letter-requires-5 : tie.Need-put-letter-requires-5
-put-letter-requires-5 c κs = omega (arith, spelt-size (c .before .before .before .before .before .enum-told4 .given .1))
-
-put-letter-requires-6 : tie.Need-put-letter-requires-6
-put-letter-requires-6 c κs =
-    let the-first = c .before .before .before .before in
-    omega (arith, spelt-size (the-first .before .before .before .before .before .enum-told4 .given .1))
+letters-in-requires : tie.Need-letters-in-requires
+letters-in-requires c κs = search needs
 
 returns : tie.Need-returns
-returns c = search spelt-I
+returns c = search spelt-none
+
+first-letter-requires : tie.Need-first-letter-requires
+first-letter-requires c κs = search needs
+
+slice-write-buf : tie.Need-slice-write-buf
+slice-write-buf c = search first-there
+
+second-letter-requires : tie.Need-second-letter-requires
+second-letter-requires c κs = search needs
+
+add-buf : tie.Need-add-buf
+add-buf c = search needs
+
+slice-write-buf-2 : tie.Need-slice-write-buf-2
+slice-write-buf-2 c = search second-there
+
+sub-buf : tie.Need-sub-buf
+sub-buf c = search needs
+
+add-buf-2 : tie.Need-add-buf-2
+add-buf-2 c = omega (arith, whole c)
+
+slice-write-buf-3 : tie.Need-slice-write-buf-3
+slice-write-buf-3 c = search last-there
+
+add-result : tie.Need-add-result
+add-result c = omega (arith, whole c)
 
 same-length : tie.Need-same-length
 same-length c = search needs
 
 returns-2 : tie.Need-returns-2
-returns-2 c = search spelt-T
-
-same-length-2 : tie.Need-same-length-2
-same-length-2 c = search needs
-
-returns-3 : tie.Need-returns-3
-returns-3 c = search spelt-HT
-
-same-length-3 : tie.Need-same-length-3
-same-length-3 c = search needs
-
-returns-4 : tie.Need-returns-4
-returns-4 c = search spelt-SHT
+returns-2 c = search spelt
 
 pub put-syllable-spec : {M : Type 1} → statement M
 put-syllable-spec =
     tie.close
     (tie.spec
-    enum-told
-    enum-told-2
-    put-letter-requires
-    enum-told-3
-    put-letter-requires-2
-    put-letter-requires-3
-    enum-told-4
-    put-letter-requires-4
-    put-letter-requires-5
-    put-letter-requires-6
+    letters-in-requires
     returns
+    first-letter-requires
+    slice-write-buf
+    second-letter-requires
+    add-buf
+    slice-write-buf-2
+    sub-buf
+    add-buf-2
+    slice-write-buf-3
+    add-result
     same-length
-    returns-2
-    same-length-2
-    returns-3
-    same-length-3
-    returns-4)
+    returns-2)

@@ -10,9 +10,6 @@ mul-entry c = search needs
 add-entry : tie.Need-add-entry
 add-entry c = search needs
 
-cast-entry : tie.Need-cast-entry
-cast-entry c = search needs
-
 add-entry-2 : tie.Need-add-entry-2
 add-entry-2 c = search needs
 
@@ -31,7 +28,6 @@ behind-spec =
     (tie.spec
     mul-entry
     add-entry
-    cast-entry
     add-entry-2
     shared-slice-read-entry
     moved-requires

@@ -41,9 +41,6 @@ mul-kind c = omega (arith, few-change (c .before .before .before))
 add-kind : tie.Need-add-kind
 add-kind c = omega (arith, few-change (c .before .before .before))
 
-cast-kind-2 : tie.Need-cast-kind-2
-cast-kind-2 c = search needs
-
 add-kind-2 : tie.Need-add-kind-2
 add-kind-2 c = omega (arith, few-change (c .before .before .before .before))
 
@@ -55,9 +52,6 @@ cast-entry c = search needs
 
 mul-entry : tie.Need-mul-entry
 mul-entry c = search needs
-
-cast-entry-2 : tie.Need-cast-entry-2
-cast-entry-2 c = search needs
 
 add-entry : tie.Need-add-entry
 add-entry c = search needs
@@ -86,12 +80,10 @@ step-spec =
     cast-kind
     mul-kind
     add-kind
-    cast-kind-2
     add-kind-2
     shared-slice-read-kind
     cast-entry
     mul-entry
-    cast-entry-2
     add-entry
     shared-slice-read-entry
     moved-requires
