@@ -221,7 +221,7 @@ impl ZOmega {
         p * 8 + q * 4 + r * 2 + s
     }
 
-    pub fn mul_by_omega_inv(self) -> ZOmega
+    fn mul_by_omega_inv(self) -> ZOmega
         requires { ⌜ Small self ⌝ }
         ensures { λ r. ⌜ quad r ≡ mulQ ints (omega^ 7) (quad self) ⌝ }
     {

@@ -272,7 +272,7 @@ impl DOmegaUnitary {
         u.lowered_if()
     }
 
-    pub fn mul_by_t_from_left(self) -> DOmegaUnitary
+    fn mul_by_t_from_left(self) -> DOmegaUnitary
         requires { ⌜ Small (self .w) ⌝ ∗ ⌜ self .n < 8 ⌝ }
         ensures { λ r. ⌜ triple r ≡ modEight (act Word.T′ (triple self)) ⌝ }
     {
@@ -314,7 +314,7 @@ impl DOmegaUnitary {
         self.mul_by_t_inv_power_from_left(1)
     }
 
-    pub fn mul_by_s_from_left(self) -> DOmegaUnitary
+    fn mul_by_s_from_left(self) -> DOmegaUnitary
         requires { ⌜ Small (self .w) ⌝ ∗ ⌜ self .n < 8 ⌝ }
         ensures { λ r. ⌜ triple r ≡ modEight (act Word.S (triple self)) ⌝ }
     {
@@ -332,7 +332,7 @@ impl DOmegaUnitary {
         }
     }
 
-    pub fn mul_by_x_from_left(self) -> DOmegaUnitary
+    fn mul_by_x_from_left(self) -> DOmegaUnitary
         requires { ⌜ self .n < 8 ⌝ }
         ensures { λ r. ⌜ triple r ≡ modEight (act Word.X (triple self)) ⌝ }
     {
@@ -348,7 +348,7 @@ impl DOmegaUnitary {
         }
     }
 
-    pub fn mul_by_w_from_left(self) -> DOmegaUnitary
+    fn mul_by_w_from_left(self) -> DOmegaUnitary
         requires { ⌜ Small (self .z) ⌝ ∗ ⌜ Small (self .w) ⌝ ∗ ⌜ self .n < 8 ⌝ }
         ensures { λ r. ⌜ triple r ≡ modEight (act Word.W (triple self)) ⌝ }
     {
