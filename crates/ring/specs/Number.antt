@@ -1,4 +1,4 @@
--- A machine's ring number as the exact one, and its size. Assumes nothing.
+-- The size of a machine's ring number, and its products by powers of omega. Assumes nothing.
 use mathlib.Core.Path.{_≡_, sym, _∙_, ap}
 use mathlib.Core.List.{List, [], _∷_}
 use Prim.Native.Nat.{ℕ, _-_, _^_, _<_}
