@@ -6,8 +6,7 @@ use mathlib.Core.List.{List}
 use Prim.Native.Nat.{ℕ, _≤_}
 use native.Mathlib.Omega.{arith}
 use lib.IntN.{pos}
-use lib.ListN.{length, take, drop}
-use lib.Seq.{take-at}
+use lib.ListN.{length, take}
 use Rattle.exact.specs.Meaning.Word.{Letter, bytes, Spelled}
 use Rattle.exact.specs.Meaning.Normal.{NormalOf}
 use Rattle.exact.specs.Meaning.Triple.{entries}
@@ -27,13 +26,11 @@ use Rattle.normal_form.specs.Meaning.{Normalises, NormaliseOutcome, wordRefusal
 use Rattle.synthesis_of_clifford_t.specs.declared.Synthesis.{Synthesis}
 use Rattle.synthesis_of_clifford_t.specs.Meaning as Job4
 use Rattle.agreement.specs.declared.Agreement.{Agreement}
-use Rattle.agreement.specs.Meaning.{Within, Agreed, handedOn, earlier, Job4Of, Second, AgreeOutcome}
-use Rattle.agreement.specs.Demand3.{taken-2, demand-3}
+use Rattle.agreement.specs.Meaning.Demand3.{Within, Agreed}
+use Rattle.agreement.specs.Meaning.Agree.{earlier, handedOn, Job4Of, Second, AgreeOutcome}
+use Rattle.agreement.specs.Jobs.{taken-2, ways-agree, written}
 
 -- ---- under demand 3's conditions the answer is yes
-written : (v : List Letter) (old : List ℕ) → take (length v) (over (bytes v) old) ≡ bytes v
-written v old = take-at (bytes v) (drop (length (bytes v)) old) (length v) (bytes-length v)
-
 decided : {P : Type 0} (b : Bool) → Decides P b → P → b ≡ true
 decided true d p = refl
 decided false d p = absurd (d .no refl p)
@@ -61,7 +58,8 @@ module _ (u : List Letter) (w : Within u) (old₁ old₂ : List ℕ) (h : enough
 
       both : (v : List Letter) × Agreed u v old₁ old₂ (lent (r .first) new₁) (a .matrix) (second .job)
       both =
-          demand-3 u w old₁ old₂ h k (r .first) new₁ (a .matrix) (second .job .handed) (second .job .buffer) (a .first-is) (a .matrix-is) (second .outcome)
+          ways-agree w
+          (record { room₁ = h; room₂ = k; normalised = a .first-is; multiplied = a .matrix-is; synthesised = second .outcome })
 
       v : List Letter
       v = both .0

@@ -15,7 +15,7 @@ use Rattle.normal_form.specs.Meaning as Job3
 use Rattle.normal_form.specs.Theorems.{normalise-unique}
 use Rattle.synthesis_of_clifford_t.specs.Unique.{synthesise-unique}
 use Rattle.agreement.specs.declared.Agreement.{Agreement}
-use Rattle.agreement.specs.Meaning.{earlier, handedOn, Job4Of, Second, Alike, AgreeOutcome}
+use Rattle.agreement.specs.Meaning.Agree.{earlier, handedOn, Job4Of, Second, Alike, AgreeOutcome}
 
 -- ---- the second way
 one-job4 : (m : FromGates) (old : List ℕ) → Only (Job4Of m old)

@@ -18,7 +18,7 @@ use Rattle.unitary.specs.Checks.{refutes}
 use Rattle.normal_form.specs.declared.Written.{Written}
 use Rattle.synthesis_of_clifford_t.specs.declared.Synthesis.{Synthesis}
 use Rattle.synthesis_of_clifford_t.specs.Meaning.{SynthesiseOutcome}
-use Rattle.agreement.specs.Meaning.{Second, Alike}
+use Rattle.agreement.specs.Meaning.Agree.{Second, Alike}
 
 -- ---- the second way
 module _ (m : FromGates) (old : List ℕ) where

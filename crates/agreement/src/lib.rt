@@ -2,7 +2,7 @@
 ghost use Prim.Native.Nat.{_≤_};
 ghost use lib.ListN.{length};
 ghost use Rattle.exact.specs.Meaning.Outcome.{Decides};
-ghost use Rattle.agreement.specs.Meaning.{Second, Alike, AgreeOutcome};
+ghost use Rattle.agreement.specs.Meaning.Agree.{Second, Alike, AgreeOutcome};
 use normal_form::Written;
 use unitary::FromGates;
 

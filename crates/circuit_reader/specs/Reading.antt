@@ -7,7 +7,7 @@ use Prim.Native.Nat.{ℕ, _+_, _<_, _≤_}
 use lib.Dec.{T}
 use lib.ListN.{length, take, drop, getD}
 use Rattle.exact.specs.Meaning.Limits as Limits
-use Rattle.exact.specs.Meaning.Outcome.{Says}
+use Rattle.exact.specs.Outcomes.Enums.{Says}
 use Rattle.exact.specs.Meaning.Refusals.{statement}
 use Rattle.exact.specs.Meaning.Text.{ascii}
 use Rattle.circuit_reader.specs.declared.Walked.{Walked}

@@ -7,7 +7,7 @@ use lib.Dec.{eqb, ltb}
 use lib.ListN.{length, getD}
 use Rattle.exact.specs.Meaning.Word.{Letter, W, byte, bytes, job2, In}
 use Rattle.exact.specs.Meaning.Limits as Limits
-use Rattle.exact.specs.Meaning.Outcome.{Says}
+use Rattle.exact.specs.Outcomes.Enums.{Says}
 use Rattle.exact.specs.Meaning.Refusals as Refusals
 use Rattle.exact.specs.Cases.Letters.{letterOf, lettersOf}
 use Rattle.exact.specs.Outcomes.Lent as Outcomes

@@ -9,7 +9,7 @@ use lib.ListN.{length, getD}
 use borrow.Author.Tests.{eqb-true, eqb-false}
 use Rattle.exact.specs.Meaning.Word.{Letter, I, H, S, X, W, T′, byte, bytes, job3, In, FirstOutside}
 use Rattle.exact.specs.Meaning.Limits as Limits
-use Rattle.exact.specs.Meaning.Outcome.{Says}
+use Rattle.exact.specs.Outcomes.Enums.{Says}
 use Rattle.exact.specs.Meaning.Refusals.{letter}
 use Rattle.exact.specs.Cases.Letters.{letterOf, letterOf-byte, lettersOf}
 use Rattle.reading.specs.declared.Read.{Read}

@@ -6,7 +6,8 @@ use lib.IntN.{ℤ}
 use Prim.Native.Nat.{ℕ, _+_, _-_, _*_, _≤_, _<_}
 use lib.Dec.{eqb}
 use Rattle.exact.specs.Meaning.Limits as Limits
-use Rattle.exact.specs.Meaning.Outcome.{Refusal, When, Says}
+use Rattle.exact.specs.Meaning.Outcome.{Refusal}
+use Rattle.exact.specs.Outcomes.Enums.{When, Says}
 use Rattle.record.specs.Decimal.{Digit, Grown, First}
 use Rattle.record.specs.Format.{Format, Found, Missing, named, natural, whole, fourNumbers, ringLine, kLine, nLine}
 use Rattle.record.specs.declared.decimal.Step.{Step}

@@ -1,4 +1,4 @@
--- A machine's triple as the exact one. Assumes nothing.
+-- When two triples are equal, and that a machine's triple is told by the exact one. Assumes nothing.
 use mathlib.Core.Path.{_≡_}
 use Rattle.exact.specs.Meaning.Number.{Ω}
 use Rattle.exact.specs.Meaning.Triple.{Triple}

@@ -1,8 +1,7 @@
 -- Outcomes, as document 01 has them: of the refusals in their order the first whose condition holds, at its place; where none holds, the answer.
 use mathlib.Core.Path.{_≡_}
 use mathlib.Core.Bool.{Bool, true, false}
-use Prim.Native.Nat.{ℕ, zero, suc}
-use lib.Dec.{eqb}
+use Prim.Native.Nat.{ℕ}
 
 -- a refusal: its number, and where its condition holds
 pub record Refusal : Type 1 where
@@ -40,19 +39,6 @@ pub record HandsOn {R S : Type 0} (Job : R → Type 0) (f : R → S) (s : S) : T
   pub job : R
   pub outcome : Job job
   pub is : s ≡ f job
-
--- ---- an answer that is an enum, by the number and the place that stand for its case
-abbrev pub When : Bool → Type 0 → Type 0
-When true C = C
-When false C = ⊥
-
--- accepted, it is the answer; else its number is that of the refusal, which holds at its place
-abbrev pub Numbered : ℕ → ℕ → Refusal → Type 0 → Type 0
-Numbered zero p f Answer = Answer
-Numbered (suc n) p f Answer = When (eqb (suc n) (f .number)) (f .At p)
-
-abbrev pub Says : ℕ × ℕ → Refusal → Type 0 → Type 0
-Says r f Answer = Numbered (r .0) (r .1) f Answer
 
 -- a Boolean that says whether P holds
 pub record Decides (P : Type 0) (b : Bool) : Type 0 where
