@@ -33,8 +33,6 @@ const AXES: usize = 576;
 
 const PAIRS: usize = 600;
 
-const CHANGES: usize = 636;
-
 const LETTERS: usize = 672;
 
 pub(crate) fn number(table: &[u8], b: u8) -> u8
@@ -77,10 +75,10 @@ impl Tail {
         requires { ⌜ Right (now table) ⌝ ∗ ⌜ Fits self ⌝ ∗ ⌜ (first < 6) × (second < 6) ⌝ }
         ensures { λ r. ⌜ Stepped (letterAt first) (letterAt second) self r ⌝ }
     {
-        let pair = first as usize * 6 + second as usize;
-        let row = table[PAIRS + pair];
-        let change = table[CHANGES + pair];
-        let kind = table[KINDS + change as usize * 24 + self.code];
+        let pair = PAIRS + (first as usize * 6 + second as usize) * 2;
+        let row = table[pair];
+        let change = table[pair + 1];
+        let kind = table[KINDS + change as usize + self.code];
         let entry = table[(row % 32) as usize * 24 + self.code];
         let tail = self.moved(entry, row / 32);
         Step {
