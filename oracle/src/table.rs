@@ -84,8 +84,7 @@ fn main() {
         table.extend((0..24).map(|code| entry(q.behind(b"", &made.times(q.matrix(code))).expect("a Clifford"))));
     }
     table.extend((0..24u8).map(|code| entry(q.behind(AXES[code as usize / 8], q.matrix(code)).expect("an axis"))));
-    table.extend(pairs.iter().map(|p| row(&q, p)));
-    table.extend(pairs.iter().map(|p| change(&q, p)));
+    table.extend(pairs.iter().flat_map(|p| [row(&q, p), 24 * change(&q, p)]));
     table.extend((b'H'..=b'X').map(|b| LETTERS[..5].iter().position(|l| *l == b).unwrap_or(5) as u8));
     println!("pub const TABLE: [u8; {}] = [", table.len());
     table.iter().for_each(|x| println!("    {x},"));

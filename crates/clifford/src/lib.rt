@@ -25,14 +25,14 @@ pub struct Coset {
     pub rest: Clifford,
 }
 
-pub const CLIFFORD_H: Clifford = Clifford {
+const CLIFFORD_H: Clifford = Clifford {
     a: 1,
     b: 0,
     c: 1,
     d: 5,
 };
 
-pub const CLIFFORD_SH: Clifford = Clifford {
+const CLIFFORD_SH: Clifford = Clifford {
     a: 2,
     b: 0,
     c: 0,
@@ -453,7 +453,7 @@ fn ranged(a: u8, b: u8, c: u8, d: u8) -> Clifford
 }
 
 impl Clifford {
-    pub fn new(a: i32, b: i32, c: i32, d: i32) -> Clifford
+    fn new(a: i32, b: i32, c: i32, d: i32) -> Clifford
         ensures { λ r. ⌜ Reduced a b c d r ⌝ }
     {
         Clifford {
@@ -464,7 +464,7 @@ impl Clifford {
         }
     }
 
-    pub fn product(self, rhs: Clifford) -> Clifford
+    fn product(self, rhs: Clifford) -> Clifford
         requires { ⌜ Ranged self ⌝ ∗ ⌜ Ranged rhs ⌝ }
         ensures { λ r. ⌜ r ≡ mulC self rhs ⌝ }
     {
@@ -478,7 +478,7 @@ impl Clifford {
         )
     }
 
-    pub fn inverse(self) -> Clifford
+    fn inverse(self) -> Clifford
         requires { ⌜ Ranged self ⌝ }
         ensures { λ r. ⌜ r ≡ invC self ⌝ }
     {
@@ -486,7 +486,7 @@ impl Clifford {
         ranged(row.a, row.b, row.c, row.d + (8 - self.d))
     }
 
-    pub fn decompose_coset(self) -> Coset
+    fn decompose_coset(self) -> Coset
         requires { ⌜ Ranged self ⌝ }
         ensures { λ r. ⌜ r ≡ splitC self ⌝ }
     {
@@ -514,7 +514,7 @@ impl Clifford {
     }
 
     // What stands before a T that comes after this Clifford, and what stands behind it.
-    pub fn decompose_tconj(self) -> Coset
+    fn decompose_tconj(self) -> Coset
         requires { ⌜ Ranged self ⌝ }
         ensures { λ r. ⌜ r ≡ tconjC self ⌝ }
     {

@@ -11,7 +11,7 @@ use reading::Read;
 use reading::Reading;
 use table::TABLE;
 
-pub mod table;
+mod table;
 
 // What jobs 3 and 5 hand back: the refusal or 0, its place, the bytes written and the T letters among them.
 pub struct Written {

@@ -10,8 +10,9 @@ use native.Mathlib.Numerals.{add-one}
 use native.Mathlib.Omega.{arith}
 use borrow.Author.Tests.{eqb-true, eqb-false}
 use lib.Dec.{eqb}
-use lib.ListN.{length, take, set, getD, replicate, length-append, length-take}
-use lib.Seq.{length-take-le, take-set-le, take-suc-set, take-take, take-append-seam, getD-take, getD-append-seam, getD-set-same, getD-set-other}
+use lib.ListN.{length, take, set, getD, length-append, length-take}
+use lib.Seq.{length-take-le, take-set-le, take-suc-set, take-take, take-append-seam, getD-take, getD-append-seam}
+use lib.Seq.{getD-set-same, getD-set-other}
 use Rattle.exact.specs.Meaning.Word.{Letter}
 use Rattle.exact.specs.Meaning.Normal as normal
 use Rattle.exact.specs.Cases.Letters.{lettersOf}
@@ -119,14 +120,6 @@ pub record Steps (f : State → State) (old : List ℕ) (r : Reading) (new : Lis
 
 pub record Blank (items : List ℕ) : Type 0 where
   pub empty : (i : ℕ) → getD items i 0 ≡ 0
-
-pub blank : (n : ℕ) → Blank (replicate {A = ℕ} n 0)
-blank n = record { empty = zeros n }
-  where
-    zeros : (n i : ℕ) → _≡_ {A = ℕ} (getD (replicate {A = ℕ} n 0) i 0) 0
-    zeros zero i = refl
-    zeros (suc n) zero = refl
-    zeros (suc n) (suc i) = zeros n i
 
 -- ---- push and pop
 pub record Pushed (old : List ℕ) (r : Reading) (code more : ℕ) (tail : Tail) (new : List ℕ) (n : Reading) : Type 0 where

@@ -99,16 +99,16 @@ given e k t q h =
 
 -- ---- the parts of the table
 abbrev pub rowOf : List ℕ → ℕ → ℕ → ℕ
-rowOf rows first second = getD rows (600 + (first * 6 + second)) 0
+rowOf rows first second = getD rows (600 + (first * 6 + second) * 2) 0
 
 abbrev pub changeOf : List ℕ → ℕ → ℕ → ℕ
-changeOf rows first second = getD rows (636 + (first * 6 + second)) 0
+changeOf rows first second = getD rows (600 + (first * 6 + second) * 2 + 1) 0
 
 abbrev pub entryOf : List ℕ → ℕ → ℕ → ℕ
 entryOf rows row g = getD rows (row % 32 * 24 + g) 0
 
 abbrev pub kindAt : List ℕ → ℕ → ℕ → ℕ
-kindAt rows change g = getD rows (408 + change * 24 + g) 0
+kindAt rows change g = getD rows (408 + change + g) 0
 
 abbrev pub syllableEntry : List ℕ → ℕ → ℕ → ℕ
 syllableEntry rows s g = getD rows (480 + s * 24 + g) 0
@@ -124,7 +124,7 @@ abbrev entriesTest : List ℕ → ℕ → ℕ → Letter → Letter → Bool
 entriesTest rows row change l m = all 24 (λ g. all 8 (pairTest (kindAt rows change g) (entryOf rows row g) row l m g))
 
 abbrev rowTest : List ℕ → ℕ → ℕ → Letter → Letter → Bool
-rowTest rows row change l m = (ltb (row % 32) 17 && ltb change 3) && (ltb row 256 && entriesTest rows row change l m)
+rowTest rows row change l m = (ltb (row % 32) 17 && ltb change 49) && (ltb row 256 && entriesTest rows row change l m)
 
 abbrev twoTest : List ℕ → ℕ → ℕ → Bool
 twoTest rows l m = rowTest rows (rowOf rows l m) (changeOf rows l m) (letterAt l) (letterAt m)
@@ -184,17 +184,17 @@ module _ (rows : List ℕ) (right : Right rows) (first second : ℕ) (hf : first
   abbrev entries : Bool
   entries = entriesTest rows row change (letterAt first) (letterAt second)
 
-  tested : (T (ltb (row % 32) 17) × T (ltb change 3)) × (T (ltb row 256) × T entries)
+  tested : (T (ltb (row % 32) 17) × T (ltb change 49)) × (T (ltb row 256) × T entries)
   tested =
       let t = at 6 (twoTest rows first) (at 6 (λ l. all 6 (twoTest rows l)) (right .pairs) first hf) second hs in
-      let s = and-yes (ltb (row % 32) 17 && ltb change 3) (ltb row 256 && entries) t in
-      (and-yes (ltb (row % 32) 17) (ltb change 3) (s .0), and-yes (ltb row 256) entries (s .1))
+      let s = and-yes (ltb (row % 32) 17 && ltb change 49) (ltb row 256 && entries) t in
+      (and-yes (ltb (row % 32) 17) (ltb change 49) (s .0), and-yes (ltb row 256) entries (s .1))
 
   pub row-few : rowOf rows first second % 32 < 17
   row-few = ltb→lt (row % 32) 17 (tested .0 .0)
 
-  pub change-few : changeOf rows first second < 3
-  change-few = ltb→lt change 3 (tested .0 .1)
+  pub change-few : changeOf rows first second < 49
+  change-few = ltb→lt change 49 (tested .0 .1)
 
   pub more-few : rowOf rows first second / 32 < 8
   more-few = omega (arith, ltb→lt row 256 (tested .1 .0))

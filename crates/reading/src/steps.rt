@@ -16,13 +16,13 @@ pub struct Tail {
 }
 
 // The kind is 0 where the syllables stay, 1 where a T meets the last of them, 2 where HT is added and 3 where SHT is.
-pub struct Step {
+pub(crate) struct Step {
     pub kind: u8,
     pub tail: Tail,
 }
 
 // H, S, X, W and T are 0 to 4 in the table, and 5 is any other byte, or no letter.
-pub const NOTHING: u8 = 5;
+pub(crate) const NOTHING: u8 = 5;
 
 // Where the parts of the table begin, behind its rows.
 const KINDS: usize = 408;
@@ -33,11 +33,9 @@ const AXES: usize = 576;
 
 const PAIRS: usize = 600;
 
-const CHANGES: usize = 636;
-
 const LETTERS: usize = 672;
 
-pub fn number(table: &[u8], b: u8) -> u8
+pub(crate) fn number(table: &[u8], b: u8) -> u8
     requires { ⌜ Right (now table) ⌝ }
     ensures { λ r. ⌜ r ≡ letterNumber (letterOf b) ⌝ }
 {
@@ -73,14 +71,14 @@ impl Tail {
     }
 
     // After two letters, by their numbers.
-    pub fn step(self, table: &[u8], first: u8, second: u8) -> Step
+    pub(crate) fn step(self, table: &[u8], first: u8, second: u8) -> Step
         requires { ⌜ Right (now table) ⌝ ∗ ⌜ Fits self ⌝ ∗ ⌜ (first < 6) × (second < 6) ⌝ }
         ensures { λ r. ⌜ Stepped (letterAt first) (letterAt second) self r ⌝ }
     {
-        let pair = first as usize * 6 + second as usize;
-        let row = table[PAIRS + pair];
-        let change = table[CHANGES + pair];
-        let kind = table[KINDS + change as usize * 24 + self.code];
+        let pair = PAIRS + (first as usize * 6 + second as usize) * 2;
+        let row = table[pair];
+        let change = table[pair + 1];
+        let kind = table[KINDS + change as usize + self.code];
         let entry = table[(row % 32) as usize * 24 + self.code];
         let tail = self.moved(entry, row / 32);
         Step {
@@ -90,7 +88,7 @@ impl Tail {
     }
 
     // Behind the syllable of this code and one more T.
-    pub fn behind(self, table: &[u8], syllable: u8) -> Tail
+    pub(crate) fn behind(self, table: &[u8], syllable: u8) -> Tail
         requires { ⌜ Right (now table) ⌝ ∗ ⌜ Fits self ⌝ ∗ ⌜ syllable < 4 ⌝ }
         ensures { λ r. ⌜ Gained syllable self r ⌝ }
     {

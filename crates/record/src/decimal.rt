@@ -6,12 +6,12 @@ ghost use lib.ListN.{length, getD, drop};
 ghost use Rattle.record.specs.Read.{DigitIs, PushIs, NaturalIs, WholeIs};
 
 // A digit taken in, or none.
-pub enum Step {
+pub(crate) enum Step {
     More(u64),
     Stop,
 }
 
-pub enum Natural {
+pub(crate) enum Natural {
     Is { value: u64, next: usize },
     No,
 }
@@ -60,7 +60,7 @@ fn push(front: u64, b: u8, most: u64) -> Step
 }
 
 // The number from 0 to `most` at a place, with `end` behind it.
-pub fn natural_at(s: &[u8], at: usize, end: u8, most: u64) -> Natural
+pub(crate) fn natural_at(s: &[u8], at: usize, end: u8, most: u64) -> Natural
     requires { ⌜ end < 48 ⌝ }
     ensures { λ r. ⌜ NaturalIs (now (s .entry)) (drop at (now (s .entry))) end most r ⌝ }
 {
@@ -86,13 +86,13 @@ pub fn natural_at(s: &[u8], at: usize, end: u8, most: u64) -> Natural
     Natural::No
 }
 
-pub enum Whole {
+pub(crate) enum Whole {
     Is { value: i64, next: usize },
     No,
 }
 
 // The number in 64-bit signed range at a place, with `end` behind it.
-pub fn whole_at(s: &[u8], at: usize, end: u8) -> Whole
+pub(crate) fn whole_at(s: &[u8], at: usize, end: u8) -> Whole
     requires { ⌜ end < 48 ⌝ }
     ensures { λ r. ⌜ WholeIs (now (s .entry)) (drop at (now (s .entry))) end r ⌝ }
 {

@@ -5,12 +5,12 @@ use crate::decimal::Whole;
 ghost use lib.ListN.{drop};
 ghost use Rattle.record.specs.Read.{NameIs, FourIs, RingIs, KIs, NIs};
 
-pub enum Name {
+pub(crate) enum Name {
     Before(usize),
     No,
 }
 
-pub enum Four {
+pub(crate) enum Four {
     Is {
         a: i64,
         b: i64,
@@ -72,7 +72,7 @@ fn four_at(s: &[u8], at: usize) -> Four
     Four::Is { a, b, c, d, next }
 }
 
-pub fn ring_at(s: &[u8], at: usize, name: u8) -> Four
+pub(crate) fn ring_at(s: &[u8], at: usize, name: u8) -> Four
     ensures { λ r. ⌜ RingIs (now (s .entry)) (drop at (now (s .entry))) name r ⌝ }
 {
     let Name::Before(value) = name_at(s, at, name) else {
@@ -81,7 +81,7 @@ pub fn ring_at(s: &[u8], at: usize, name: u8) -> Four
     four_at(s, value)
 }
 
-pub fn k_at(s: &[u8], at: usize) -> Whole
+pub(crate) fn k_at(s: &[u8], at: usize) -> Whole
     ensures { λ r. ⌜ KIs (now (s .entry)) (drop at (now (s .entry))) r ⌝ }
 {
     let Name::Before(value) = name_at(s, at, b'k') else {
@@ -90,7 +90,7 @@ pub fn k_at(s: &[u8], at: usize) -> Whole
     decimal::whole_at(s, value, b'\n')
 }
 
-pub fn n_at(s: &[u8], at: usize) -> Natural
+pub(crate) fn n_at(s: &[u8], at: usize) -> Natural
     ensures { λ r. ⌜ NIs (now (s .entry)) (drop at (now (s .entry))) r ⌝ }
 {
     let Name::Before(value) = name_at(s, at, b'n') else {

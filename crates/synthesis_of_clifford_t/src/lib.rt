@@ -48,7 +48,7 @@ fn bit_count(residue: usize) -> u8
 }
 
 // m of a step, 0 to 3, by the residues of z and w.
-pub fn power(z: usize, w: usize) -> u8
+fn power(z: usize, w: usize) -> u8
     requires { ⌜ (z < 16) × (w < 16) ⌝ }
     ensures { λ r. ⌜ r ≡ powerBy z w ⌝ }
 {
@@ -58,7 +58,7 @@ pub fn power(z: usize, w: usize) -> u8
 }
 
 // Whether a step lowers k, by the residues of z and w.
-pub fn falls(z: usize, w: usize) -> bool
+fn falls(z: usize, w: usize) -> bool
     requires { ⌜ (z < 16) × (w < 16) ⌝ }
     ensures { λ r. ⌜ r ≡ fallsBy z w ⌝ }
 {
@@ -68,13 +68,13 @@ pub fn falls(z: usize, w: usize) -> bool
 // ---- a step
 
 // m and the next matrix, or none.
-pub enum Reduction {
+enum Reduction {
     Step(u8, DOmegaUnitary),
     Ended,
 }
 
 // The step at a reduced unitary triple: H·T^-m from the left, then as many divisions by root two as there are.
-pub fn reduce_denomexp(t: DOmegaUnitary) -> Reduction
+fn reduce_denomexp(t: DOmegaUnitary) -> Reduction
     requires { ⌜ Good t ⌝ ∗ ⌜ t .k ≤ deepest ⌝ }
     ensures { λ r. ⌜ answerOf r ≡ reduction (triple t) ⌝ }
 {
@@ -109,9 +109,9 @@ fn write_block(rest: &mut [u8], m: u8) -> usize
 // ---- the end
 
 // What closes a word at k = 0: T or none, and a tail of X, S and W.
-pub struct Closing {
-    pub tees: usize,
-    pub tail: Ending,
+struct Closing {
+    tees: usize,
+    tail: Ending,
 }
 
 fn by_sign(x: i64, i: u8, j: u8) -> u8
@@ -194,7 +194,7 @@ fn write_closing(rest: &mut [u8], t: DOmegaUnitary) -> usize
 // ---- job 4
 
 // The letters that a reduced triple is taken apart into, from the start of a working buffer; their number is handed back.
-pub fn decompose_domega_unitary(t: DOmegaUnitary, work: &mut [u8]) -> usize
+fn decompose_domega_unitary(t: DOmegaUnitary, work: &mut [u8]) -> usize
     requires { ⌜ Good t ⌝ ∗ ⌜ t .k ≤ deepest ⌝ ∗ ⌜ 372 ≤ length (now work) ⌝ }
     ensures { λ r. ⌜ Put (now (work .entry)) 0 (bytes (letters (triple t))) (now (work .exit)) r ⌝ }
 {

@@ -21,7 +21,7 @@ pub struct View {
     pub im11: f64,
 }
 
-pub fn nils() -> View
+pub(crate) fn nils() -> View
     ensures { λ r. ⌜ r ≡ nothing ⌝ }
 {
     View {
@@ -36,7 +36,7 @@ pub fn nils() -> View
     }
 }
 
-pub fn entries(k: u32, n: u8, z: ZOmega, w: ZOmega) -> View
+pub(crate) fn entries(k: u32, n: u8, z: ZOmega, w: ZOmega) -> View
     requires { ⌜ (k ≤ 60) × Unitary (record { k = k; n = n; z = quad z; w = quad w }) ⌝ }
     ensures { λ r. ⌜ Viewed (record { k = k; n = n; z = quad z; w = quad w }) r ⌝ }
 {

@@ -8,12 +8,12 @@ ghost use Rattle.view.specs.Size.{size};
 use crate::float::over;
 use ring::ZOmega;
 
-pub struct Complex {
+pub(crate) struct Complex {
     pub re: f64,
     pub im: f64,
 }
 
-pub fn conj(x: ZOmega) -> ZOmega
+pub(crate) fn conj(x: ZOmega) -> ZOmega
     requires { ⌜ size (quad x) ≤ 2 ^ 60 ⌝ }
     ensures { λ r. ⌜ quad r ≡ conjQ ints (quad x) ⌝ }
 {
@@ -29,7 +29,7 @@ pub fn conj(x: ZOmega) -> ZOmega
     }
 }
 
-pub fn mul_by_omega_power(x: ZOmega, n: u8) -> ZOmega
+pub(crate) fn mul_by_omega_power(x: ZOmega, n: u8) -> ZOmega
     requires { ⌜ size (quad x) ≤ 2 ^ 60 ⌝ }
     ensures { λ r. ⌜ quad r ≡ mulQ ints (quad x) (omega^ n) ⌝ }
 {
@@ -44,7 +44,7 @@ pub fn mul_by_omega_power(x: ZOmega, n: u8) -> ZOmega
 }
 
 // The parts over root two to the k.
-pub fn parts(x: ZOmega, k: u32) -> Complex
+pub(crate) fn parts(x: ZOmega, k: u32) -> Complex
     requires { ⌜ (k ≤ 60) × (size (quad x) ≤ 2 ^ k) ⌝ }
     ensures { λ r. ⌜ Entry k (quad x) (r .re) (r .im) ⌝ }
 {

@@ -8,7 +8,7 @@ use Rattle.reading.proofs.steps.Tail.step.Statement.{statement}
 use Rattle.reading.proofs.steps.Tail.step.Tie as tie
 
 module _ (s : tie.Start) where
-  few-change : changeOf (now (s .args .table)) (s .args .first) (s .args .second) < 3
+  few-change : changeOf (now (s .args .table)) (s .args .first) (s .args .second) < 49
   few-change = search change-few
 
   few-rows : rowOf (now (s .args .table)) (s .args .first) (s .args .second) % 32 < 17
@@ -20,8 +20,11 @@ mul-pair c = search needs
 add-pair : tie.Need-add-pair
 add-pair c = search needs
 
-add-row : tie.Need-add-row
-add-row c = search needs
+mul-pair-2 : tie.Need-mul-pair-2
+mul-pair-2 c = search needs
+
+add-pair-2 : tie.Need-add-pair-2
+add-pair-2 c = search needs
 
 shared-slice-read-row : tie.Need-shared-slice-read-row
 shared-slice-read-row c = search needs
@@ -34,9 +37,6 @@ shared-slice-read-change c = search needs
 
 cast-kind : tie.Need-cast-kind
 cast-kind c = omega (arith, few-change (c .before .before .before))
-
-mul-kind : tie.Need-mul-kind
-mul-kind c = omega (arith, few-change (c .before .before .before))
 
 add-kind : tie.Need-add-kind
 add-kind c = omega (arith, few-change (c .before .before .before))
@@ -73,12 +73,12 @@ step-spec =
     (tie.spec
     mul-pair
     add-pair
-    add-row
+    mul-pair-2
+    add-pair-2
     shared-slice-read-row
     add-change
     shared-slice-read-change
     cast-kind
-    mul-kind
     add-kind
     add-kind-2
     shared-slice-read-kind
