@@ -1,11 +1,12 @@
 -- Reducing a triple: the twos that z and w share are taken off at once, by the trailing zeros of an `or`; then root two is at most once. Assumes
 -- nothing.
 use mathlib.Core.Path.{_≡_, refl, sym, _∙_, ap}
-use mathlib.Core.Bool.{Bool, true, false, _&&_}
+use mathlib.Core.Bool.{Bool, true, false, not, _&&_}
 use Prim.Native.Nat.{ℕ, zero, suc, _+_, _/_, _%_, _^_, _≤_, _<_}
 use native.Mathlib.Nat.{zero-mod}
 use native.Mathlib.Omega.{arith}
 use lib.Dec.{T}
+use borrow.Author.Tests.{not-true, not-false}
 use lib.Bits.{bitOr}
 use lib.IntN.{ℤ, natAbs}
 use mir.Facts.{and-yes, ofZ-toZ}
@@ -44,6 +45,9 @@ module _ (t : Triple) (h : T (bothTest t)) where
 
 pub both-so : (t : Triple) (b : Bool) → b ≡ bothTest t → b ≡ true → T (bothTest t)
 both-so t b e f = rw (sym e ∙ f) tt
+
+pub both-left : (t : Triple) (b : Bool) → b ≡ bothTest t → not b ≡ false → T (bothTest t)
+both-left t b e f = both-so t b e (not-false b f)
 
 -- ---- finding m: a and b have the zeros that z's and w's coefficients share
 module _ (t : Triple) (small : t .k ≤ 61) (a b : ℤ) (f : SFits w64 a) (g : SFits w64 b) (z-shares : Shares (t .z) a) (w-shares : Shares (t .w) b) where
@@ -91,21 +95,40 @@ pub data OnceMore (t r : Triple) : Type 0 where
   stays : T (reducedTest t) → r ≡ t → OnceMore t r
   falls : Divided 1 t r → OnceMore t r
 
+reduced-at : (u : DOmegaUnitary) (b : Bool) → b ≡ bothTest (triple u) → b ≡ false → T (reducedTest (triple u))
+reduced-at u b test stop = go (u .k)
+  where
+    go : (k : ℕ) → T (lowest k (divides (quad (u .z)) && divides (quad (u .w))))
+    go zero = tt
+    go (suc k) = rw (sym test ∙ stop) tt
+
 module _ (u : DOmegaUnitary) where
   pub at-nought : u .k ≡ 0 → OnceMore (triple u) (triple u)
   at-nought e = stays (rw e tt) refl
 
-  pub no-root : {b : Bool} → b ≡ bothTest (triple u) → b ≡ false → OnceMore (triple u) (triple u)
-  no-root {b} test stop = stays (go (u .k)) refl
-    where
-      go : (k : ℕ) → T (lowest k (divides (quad (u .z)) && divides (quad (u .w))))
-      go zero = tt
-      go (suc k) = rw (sym test ∙ stop) tt
+  pub no-root : (b : Bool) → b ≡ bothTest (triple u) → b ≡ false → OnceMore (triple u) (triple u)
+  no-root b test stop = stays (reduced-at u b test stop) refl
 
   pub one-root : (r : DOmegaUnitary) → Divided 1 (triple u) (triple r) → OnceMore (triple u) (triple r)
   one-root r d = falls d
 
--- s is the triple as it came; were there a root two left, there would be a two more
+-- ---- the whole: s is the triple as it came
+module _ (s : Triple) (t : DOmegaUnitary) (e : triple t ≡ modEight s) where
+  itself : T (reducedTest (triple t)) → Answers (entries s) (triple t)
+  itself test =
+      record {
+        same = Same-of (ap entries e ∙ modEight-same s);
+        reduced = test-reduced (triple t) test;
+        n-small = omega (arith, ap (λ v. v .n) e);
+      }
+
+  pub reduced-nought : t .k ≡ 0 → Answers (entries s) (triple t)
+  reduced-nought f = itself (rw f tt)
+
+  pub reduced-there : (b : Bool) → b ≡ bothTest (triple t) → not b ≡ true → Answers (entries s) (triple t)
+  reduced-there b test stop = itself (reduced-at t b test (not-true b stop))
+
+-- were there a root two left, there would be a two more
 module _ (s t u r : Triple) (e : t ≡ modEight s) (m : ℕ) (h : Twos t m) (d : Divided (m + m) t u) where
   u-same : Same (entries u) (entries s)
   u-same = Same-trans (divided-same (m + m) t u d) (Same-of (ap entries e ∙ modEight-same s))
@@ -142,8 +165,8 @@ module _ (s : Triple) (t r : DOmegaUnitary) (e : triple t ≡ modEight s) (m : �
   pub twos-off : (u : DOmegaUnitary) → Divided (m + m) (triple t) (triple u) → OnceMore (triple u) (triple r) → Answers (entries s) (triple r)
   twos-off u d = all-off s (triple t) (triple u) (triple r) e m h d
 
-  pub no-twos : m ≡ 0 → OnceMore (triple t) (triple r) → Answers (entries s) (triple r)
-  no-twos f = all-off s (triple t) (triple t) (triple r) e m h (rw f itself)
+  pub no-twos : m ≡ 0 → Divided 1 (triple t) (triple r) → Answers (entries s) (triple r)
+  no-twos f d = all-off s (triple t) (triple t) (triple r) e m h (rw f undivided) (falls d)
     where
-      itself : Divided 0 (triple t) (triple t)
-      itself = record { k-is = omega arith; n-is = refl; z-is = omegas-laws .one-mul (quad (t .z)); w-is = omegas-laws .one-mul (quad (t .w)) }
+      undivided : Divided 0 (triple t) (triple t)
+      undivided = record { k-is = omega arith; n-is = refl; z-is = omegas-laws .one-mul (quad (t .z)); w-is = omegas-laws .one-mul (quad (t .w)) }

@@ -264,9 +264,15 @@ impl DOmegaUnitary {
             n: n % 8,
             k: k,
         };
+        if t.k == 0 {
+            return t;
+        }
+        if !t.divisible() {
+            return t;
+        }
         let m = t.twos();
         if m == 0 {
-            return t.lowered_if();
+            return t.lowered();
         }
         let u = t.halved(m);
         u.lowered_if()
