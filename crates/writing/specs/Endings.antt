@@ -7,7 +7,7 @@ use native.Mathlib.Nat.{zero-add, suc-add}
 use native.Mathlib.Omega.{arith}
 use lib.Dec.{eqb, ltb}
 use lib.ListN.{length, length-append, getD}
-use borrow.Author.Tests.{eqb-true, eqb-false, ne-eqb, ltb-true, ltb-false, lt-ltb, le-ltb}
+use borrow.Author.Tests.{eqb-true, eqb-false, ne-eqb, ltb-true, ltb-false}
 use Rattle.exact.specs.Meaning.Word.{Letter, I, H, S, X, W, byte, bytes, tees}
 use Rattle.exact.specs.Meaning.Normal.{times, tailWord, orI, kept, lessFinalW, HT, SHT, Syllable}
 use Rattle.exact.specs.Unique.Tails.{tees-append}
