@@ -1,5 +1,4 @@
--- What `agree` promises, for every input: the outcomes of both ways, and yes exactly when both are accepted with the same bytes. Under demand 3's
--- conditions it answers yes. Assumes nothing.
+-- Under demand 3's conditions `agree` answers yes; and what either way says that it wrote is there. Assumes nothing.
 use mathlib.Core.Path.{_≡_, refl, sym, _∙_, ap}
 use mathlib.Core.Bool.{Bool, true, false}
 use mathlib.Core.List.{List}
@@ -30,7 +29,7 @@ use Rattle.agreement.specs.Meaning.Demand3.{Within, Agreed}
 use Rattle.agreement.specs.Meaning.Agree.{earlier, handedOn, Job4Of, Second, AgreeOutcome}
 use Rattle.agreement.specs.Jobs.{taken-2, ways-agree, written}
 
--- ---- under demand 3's conditions the answer is yes
+-- ---- yes
 decided : {P : Type 0} (b : Bool) → Decides P b → P → b ≡ true
 decided true d p = refl
 decided false d p = absurd (d .no refl p)
