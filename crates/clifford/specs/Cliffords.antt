@@ -19,8 +19,10 @@ use Rattle.clifford.specs.declared.Tconj.{Tconj}
 use Rattle.clifford.specs.Meaning.{letters, axisWord, reduced, Ranged, Product, Inverse, Split}
 use Rattle.clifford.specs.Arguments.{Reduced}
 use Rattle.clifford.specs.Remainder.{reduced-back}
-use Rattle.clifford.specs.Words.{_≈_, by-test, by-refl, by-eq, by-sym, _⨾_, join, under, before, other-side, lessened, cycles, exes, esses, doubleyous, pass, pass-S}
-use Rattle.clifford.specs.Tables.{quadruple, conj2, conj3, cinv, tconj, Row2, Row3, RowInv, RowT, conj2-right, conj3-right, conj3-ranged, cinv-right, tconj-right}
+use Rattle.clifford.specs.Words.{_≈_, by-test, by-refl, by-eq, by-sym, _⨾_, join, under, before, other-side, lessened, cycles, exes, esses}
+use Rattle.clifford.specs.Words.{doubleyous, pass, pass-S}
+use Rattle.clifford.specs.Tables.{quadruple, conj2, conj3, cinv, tconj, Row2, Row3, RowInv, RowT, conj2-right, conj3-right, conj3-ranged}
+use Rattle.clifford.specs.Tables.{cinv-right, tconj-right}
 
 -- ---- the numbers brought into their ranges
 abbrev pub reduce : ℕ → ℕ → ℕ → ℕ → Clifford

@@ -18,7 +18,8 @@ use Rattle.exact.specs.Cases.Letters.{bytes-length, bytes-inj}
 use Rattle.exact.specs.Outcomes.Ladder.{Passed, answered}
 use Rattle.exact.specs.Outcomes.Lent.{handed-same, bytes-same}
 use Rattle.qasm.specs.declared.Written.{Written}
-use Rattle.circuit.specs.Meaning.{Edition, two, three, row, Statement, h′, s′, t′, x′, allowed, AllAllowed, readAs, text, Right, letters, circuit, lessI, matrix, Reads}
+use Rattle.circuit.specs.Meaning.{Edition, two, three, row, Statement, h′, s′, t′, x′, allowed, AllAllowed, readAs, text, Right, letters, circuit}
+use Rattle.circuit.specs.Meaning.{lessI, matrix, Reads}
 use Rattle.qasm.specs.Meaning.{refused, accepted, Circuits, writeRefusals, WriteOutcome, readRefusals, ReadOutcome}
 use Rattle.circuit.specs.Lines.{allowed-append, each, computed, one-reading}
 use Rattle.circuit.specs.Gates.{letters-circuit, circuit-matrix, word-matrix}

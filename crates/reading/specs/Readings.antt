@@ -8,7 +8,8 @@ use native.Mathlib.Omega.{arith}
 use lib.ListN.{length, length-append}
 use Rattle.exact.specs.Meaning.Matrix.{Same}
 use Rattle.exact.specs.Meaning.Word.{Letter, I, H, S, X, W, T′, word, tees}
-use Rattle.exact.specs.Meaning.Normal.{Syllable, HT, SHT, Front, nothing, onlyH, onlySH, Tail, Shape, Fits, Normal, times, frontWord, tailWord, orI, after, leading, spell}
+use Rattle.exact.specs.Meaning.Normal.{Syllable, HT, SHT, Front, nothing, onlyH, onlySH, Tail, Shape, Fits, Normal, times, frontWord, tailWord, orI}
+use Rattle.exact.specs.Meaning.Normal.{after, leading, spell}
 use Rattle.exact.specs.Meaning.Clifford.{cycle}
 use Rattle.exact.specs.Matrices.Same.{Same-of}
 use Rattle.exact.specs.Unique.Normal.{spell-word}
@@ -19,7 +20,8 @@ use Rattle.clifford.specs.declared.Clifford.{Clifford}
 use Rattle.clifford.specs.declared.Coset.{Coset}
 use Rattle.clifford.specs.Meaning.{letters, axisWord, Ranged, Split}
 use Rattle.clifford.specs.Words.{_≈_, by-test, by-refl, by-eq, by-sym, _⨾_, under, before}
-use Rattle.clifford.specs.Cliffords.{mulC, mul-right, mul-ranged, splitC, split-right, tconjC, tconj-ranged, tconj-same, few, cliffordI, cliffordX, cliffordS, cliffordW, cliffordH, cliffordHS, cliffordSHS, H-is, HS-is, SHS-is, H-ranged}
+use Rattle.clifford.specs.Cliffords.{mulC, mul-right, mul-ranged, splitC, split-right, tconjC, tconj-ranged, tconj-same, few, cliffordI, cliffordX}
+use Rattle.clifford.specs.Cliffords.{cliffordS, cliffordW, cliffordH, cliffordHS, cliffordSHS, H-is, HS-is, SHS-is, H-ranged}
 
 -- the syllables with the last one first
 pub record State : Type 0 where

@@ -199,7 +199,8 @@ impl DOmegaUnitary {
 
     // The exponent 2m lower, z and w divided by 2 to the m.
     pub fn halved(self, m: u8) -> DOmegaUnitary
-        requires { ⌜ Small (self .z) ⌝ ∗ ⌜ Small (self .w) ⌝ ∗ ⌜ (m < 64) × (m + m ≤ self .k) ⌝ ∗ ⌜ Multiple m (quad (self .z)) ⌝ ∗ ⌜ Multiple m (quad (self .w)) ⌝ }
+        requires { ⌜ Small (self .z) ⌝ ∗ ⌜ Small (self .w) ⌝ ∗ ⌜ (m < 64) × (m + m ≤ self .k) ⌝
+            ∗ ⌜ Multiple m (quad (self .z)) ⌝ ∗ ⌜ Multiple m (quad (self .w)) ⌝ }
         ensures { λ r. ⌜ Divided (m + m) (triple self) (triple r) ⌝ }
     {
         let z = self.z;

@@ -3,7 +3,8 @@
 use mathlib.Core.Path.{_≡_, refl, sym, ap, _∙_, subst}
 use mathlib.Core.Bool.{Bool, true, false, cond}
 use Prim.Native.Nat.{ℕ, suc, _+_, _-_, _*_, _^_, _≤_, _<_, zero-le}
-use native.Mathlib.Nat.{le-trans, le-of-eq, zero-mul, add-mul, mul-assoc, mul-comm, mul-right-comm, mul-le-mul, mul-le-mul-left, le-of-mul-le-mul-right, mul-mul-mul-comm}
+use native.Mathlib.Nat.{le-trans, le-of-eq, zero-mul, add-mul, mul-assoc, mul-comm, mul-right-comm, mul-le-mul, mul-le-mul-left, le-of-mul-le-mul-right}
+use native.Mathlib.Nat.{mul-mul-mul-comm}
 use native.Mathlib.Omega.{arith}
 use lib.IntN.{ℤ, pos, negsuc, natAbs}
 use lib.Dec.{lit≤, lit<}

@@ -5,7 +5,8 @@ use Prim.Native.Nat.{ℕ, zero, suc, _+_, _%_, _<_}
 use native.Mathlib.Omega.{arith}
 use borrow.Author.Tests.{eqb-true, eqb-false}
 use lib.Dec.{eqb}
-use lib.IntN.{ℤ, pos, negsuc, sucℤ, predℤ, negℤ, natAbs, _+ℤ_, _-ℤ_, _*ℤ_, +ℤ-idl, sucℤ-+ℤ, predℤ-+ℤ, zero-*ℤ, sucℤ-*ℤ, predℤ-*ℤ}
+use lib.IntN.{ℤ, pos, negsuc, sucℤ, predℤ, negℤ, natAbs, _+ℤ_, _-ℤ_, _*ℤ_, +ℤ-idl, sucℤ-+ℤ, predℤ-+ℤ, zero-*ℤ, sucℤ-*ℤ}
+use lib.IntN.{predℤ-*ℤ}
 use lib.Signed.{shrZ}
 use Rattle.exact.specs.Meaning.Number.{odd, bit, up, down}
 use Rattle.exact.specs.Whole.Laws.{ℤ-steps}

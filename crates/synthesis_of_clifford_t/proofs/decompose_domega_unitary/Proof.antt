@@ -3,7 +3,8 @@
 use native.Mathlib.Omega.{arith}
 use Rattle.unitary.specs.Meaning.{triple}
 use Rattle.synthesis_of_clifford_t.specs.Steps.{left}
-use Rattle.synthesis_of_clifford_t.specs.Parts.{Writing, writing-start, still-good, still-few, len-inside, length-kept, block-fits, not-ended, step-few, step-nearer, step-room, step-writing, end-room, end-fits, end-put}
+use Rattle.synthesis_of_clifford_t.specs.Parts.{Writing, writing-start, still-good, still-few, len-inside, length-kept, block-fits, not-ended}
+use Rattle.synthesis_of_clifford_t.specs.Parts.{step-few, step-nearer, step-room, step-writing, end-room, end-fits, end-put}
 use borrow.Author.Needs.{needs}
 use Rattle.synthesis_of_clifford_t.proofs.decompose_domega_unitary.Statement.{statement}
 use Rattle.synthesis_of_clifford_t.proofs.decompose_domega_unitary.Tie as tie
