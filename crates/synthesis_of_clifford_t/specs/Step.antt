@@ -16,9 +16,8 @@ use Rattle.exact.specs.Meaning.Normal.{times}
 use Rattle.exact.specs.Meaning.Triple.{Triple, rows, entries, Unitary, Reduced}
 use Rattle.exact.specs.Whole.Parity.{xr, xr-self, odd-add, odd-sub, half-plus, false-true, bit-odd}
 use Rattle.exact.specs.Whole.Twos.{TwoTo}
-use Rattle.exact.specs.Algebra.Ring.{ints-laws}
-use Rattle.exact.specs.Algebra.Solver.{_⊗_, exprs, ring₃}
-use Rattle.exact.specs.Algebra.Omega.{omegas-laws, quad-path, root2^-add, X₀, parts, solveQ}
+use Rattle.exact.specs.Algebra.Solver.{_⊗_, ring₃}
+use Rattle.exact.specs.Algebra.Omega.{omegas-laws, quad-path, root2-twice, root2^-add}
 use Rattle.exact.specs.Algebra.OmegaPower.{omega^-mod}
 use Rattle.exact.specs.Algebra.Norm.{norm, no-1011}
 use Rattle.exact.specs.Algebra.Over.{divides, over, even-sums, over-times}
@@ -251,7 +250,7 @@ module _ (x y : Matrix) (h : Same x y) where
       ap odds
       (ap (λ m. m .p) (multiple (suc (suc j)) split)
       ∙ ring₃ omegas omegas-laws (λ r q p. r ⊗ (r ⊗ q) ⊗ p) (λ r q p. r ⊗ (r ⊗ (q ⊗ p))) tt (root2 ints) (root2^ j) (y .m .p)
-      ∙ twice (mulQ ints (root2^ j) (y .m .p)))
+      ∙ root2-twice (mulQ ints (root2^ j) (y .m .p)))
       ∙ agree-even (mulQ ints (root2^ j) (y .m .p)) (mulQ ints (root2^ j) (y .m .p)) refl
     where
       j : ℕ
@@ -259,11 +258,6 @@ module _ (x y : Matrix) (h : Same x y) where
 
       split : x .e ≡ y .e + suc (suc j)
       split = omega arith
-
-      twice : (v : Ω) → mulQ ints (root2 ints) (mulQ ints (root2 ints) v) ≡ addQ ints v v
-      twice v =
-          solveQ ints ints-laws (parts v []) (mulQ exprs (root2 exprs) (mulQ exprs (root2 exprs) X₀)) (addQ exprs X₀ X₀)
-          (tt, tt, tt, tt)
 
 -- ---- n counts modulo 8
 abbrev pub at-n : Triple → ℕ → Triple

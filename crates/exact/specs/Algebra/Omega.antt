@@ -134,17 +134,17 @@ conj-eval xs (⊖ e) = conj-neg ints ints-laws (eval omegas (at omegas xs) e) �
 
 -- ---- root two
 -- it is no zero divisor
+pub root2-twice : (x : Ω) → mulQ ints (root2 ints) (mulQ ints (root2 ints) x) ≡ addQ ints x x
+root2-twice x = solveQ ints ints-laws (parts x []) (mulQ exprs (root2 exprs) (mulQ exprs (root2 exprs) X₀)) (addQ exprs X₀ X₀) (tt, tt, tt, tt)
+
 pub root2-cancel : (x y : Ω) → mulQ ints (root2 ints) x ≡ mulQ ints (root2 ints) y → x ≡ y
 root2-cancel x y h =
-    let e : addQ ints x x ≡ addQ ints y y = sym (twice x) ∙ ap (mulQ ints (root2 ints)) h ∙ twice y in
+    let e : addQ ints x x ≡ addQ ints y y = sym (root2-twice x) ∙ ap (mulQ ints (root2 ints)) h ∙ root2-twice y in
     quad-path
     (halved (x .a) (y .a) (ap (λ q. q .a) e))
     (halved (x .b) (y .b) (ap (λ q. q .b) e))
     (halved (x .c) (y .c) (ap (λ q. q .c) e))
     (halved (x .d) (y .d) (ap (λ q. q .d) e))
-  where
-    twice : (z : Ω) → mulQ ints (root2 ints) (mulQ ints (root2 ints) z) ≡ addQ ints z z
-    twice z = solveQ ints ints-laws (parts z []) (mulQ exprs (root2 exprs) (mulQ exprs (root2 exprs) X₀)) (addQ exprs X₀ X₀) (tt, tt, tt, tt)
 
 pub root2^-add : (m n : ℕ) → root2^ (m + n) ≡ mulQ ints (root2^ m) (root2^ n)
 root2^-add = power-add omegas omegas-laws (root2 ints)

@@ -17,7 +17,7 @@ use Rattle.exact.specs.Whole.Size.{natAbs-mul}
 use Rattle.exact.specs.Whole.Twos.{TwoTo, one-more, orZ, or-fits, or-sfits, or-each, or-all, shift-times}
 use Rattle.exact.specs.Algebra.Ring.{ints-laws}
 use Rattle.exact.specs.Algebra.Solver.{Expr, var, con, _⊗_, exprs}
-use Rattle.exact.specs.Algebra.Omega.{quad-path, root2^-add, X₀, parts, solveQ}
+use Rattle.exact.specs.Algebra.Omega.{quad-path, root2-twice, root2^-add, X₀, parts, solveQ}
 use Rattle.exact.specs.Algebra.Norm.{two^}
 
 -- 2 to the m divides each coefficient
@@ -124,8 +124,7 @@ module _ (m : ℕ) (x y : Ω) (e : mulQ ints (root2^ (m + m)) y ≡ x) where
       }
     where
       double : addQ ints v v ≡ y
-      double =
-          sym (solveQ ints ints-laws (parts v []) (mulQ exprs (root2 exprs) (mulQ exprs (root2 exprs) X₀)) (addQ exprs X₀ X₀) (tt, tt, tt, tt)) ∙ f
+      double = sym (root2-twice v) ∙ f
 
       even : (p r : ℤ) → r +ℤ r ≡ p → natAbs p % 2 ≡ 0
       even p r g = sym (bit-odd p) ∙ ap (λ z. bit (odd z)) (sym g) ∙ ap bit (odd-double r)
