@@ -8,7 +8,7 @@ ghost use Rattle.view.specs.Meaning.Near.{half^, Shows};
 ghost use Rattle.view.specs.Size.{Fit};
 
 // A whole number, exactly.
-pub(crate) fn cast(a: i64) -> f64
+fn cast(a: i64) -> f64
     requires { ⌜ natAbs a ≤ 2 ^ 53 ⌝ }
     ensures { λ r. ⌜ r ≡ ofInt binary64 a ⌝ }
 {
@@ -16,7 +16,7 @@ pub(crate) fn cast(a: i64) -> f64
 }
 
 // 2 to the -s, exactly.
-pub(crate) fn power(s: u32) -> f64
+fn power(s: u32) -> f64
     requires { ⌜ s ≤ 52 ⌝ }
     ensures { λ r. ⌜ r ≡ half^ s ⌝ }
 {
@@ -24,7 +24,7 @@ pub(crate) fn power(s: u32) -> f64
 }
 
 // One rounded product by the root-two constant, one rounded sum, one exact scaling.
-pub(crate) fn near(a: i64, b: i64, s: u32) -> f64
+fn near(a: i64, b: i64, s: u32) -> f64
     requires { ⌜ (s ≤ 52) × (natAbs a ≤ 2 ^ s) × (natAbs b ≤ 2 ^ s) ⌝ }
     ensures { λ r. ⌜ Shows (record { A = a; B = b; s = s }) r ⌝ }
 {
