@@ -33,7 +33,7 @@ use Rattle.normal_form.specs.Meaning as Job3
 use Rattle.normal_form.specs.Meaning.{Normalises, NormaliseOutcome, wordRefusals}
 use Rattle.synthesis_of_clifford_t.specs.declared.Synthesis.{Synthesis}
 use Rattle.synthesis_of_clifford_t.specs.Meaning as Job4
-use Rattle.synthesis_of_clifford_t.specs.Synthesised.{word-enough}
+use Rattle.steps.specs.Synthesised.{word-enough}
 use Rattle.agreement.specs.Meaning.Demand3.{Within, Synthesises, BothWays, Agreed, Seen, seenFirst, seenSecond, OneOutcome}
 
 -- the whole word is its first ending

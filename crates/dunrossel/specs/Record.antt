@@ -30,8 +30,8 @@ use Rattle.unitary.specs.Checks.{exponent-size}
 use Rattle.synthesis_of_clifford_t.specs.declared.Synthesis.{Synthesis}
 use Rattle.synthesis_of_clifford_t.specs.Meaning as Job4
 use Rattle.synthesis_of_clifford_t.specs.Meaning.{SynthesiseOutcome}
-use Rattle.synthesis_of_clifford_t.specs.Synthesised.{reduce-ready}
-use Rattle.synthesis_of_clifford_t.specs.Counts.{answer-enough}
+use Rattle.steps.specs.Synthesised.{reduce-ready}
+use Rattle.steps.specs.Counts.{answer-enough}
 use Rattle.record.specs.declared.Record.{Record}
 use Rattle.record.specs.Meaning.{numbers, ReadOutcome, WriteOutcome}
 use Rattle.dunrossel.specs.Meaning.Bench.{printed, refused, wordText, wordSize, asked, NumbersOutcome, OfRecord, BenchOutcome}

@@ -35,9 +35,9 @@ use Rattle.normal_form.specs.Meaning as Normalised
 use Rattle.normal_form.specs.Meaning.{Normalises, NormaliseOutcome}
 use Rattle.writing.specs.Put.{Put}
 use Rattle.synthesis_of_clifford_t.specs.declared.Synthesis.{Synthesis}
-use Rattle.synthesis_of_clifford_t.specs.Step.{Ready}
-use Rattle.synthesis_of_clifford_t.specs.Steps.{letters, letters-same}
-use Rattle.synthesis_of_clifford_t.specs.Counts.{letters-plain, letters-length}
+use Rattle.steps.specs.Step.{Ready}
+use Rattle.steps.specs.Steps.{letters, letters-same}
+use Rattle.steps.specs.Counts.{letters-plain, letters-length}
 use Rattle.synthesis_of_clifford_t.specs.Meaning.{refused, counts, SynthesiseOutcome}
 
 -- the normal word of a reduced triple, where there is room for it

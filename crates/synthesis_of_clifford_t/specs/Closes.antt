@@ -30,8 +30,8 @@ use Rattle.writing.specs.Put.{Put, put-more, put-length}
 use Rattle.writing.specs.Endings.{endWord, endSize}
 use Rattle.writing.specs.Codes.{bytes-append}
 use Rattle.synthesis_of_clifford_t.specs.declared.Closing as declared
-use Rattle.synthesis_of_clifford_t.specs.Residues.{back}
-use Rattle.synthesis_of_clifford_t.specs.Closing.{isZero, swaps, phase, closing, phase-few, Last, diagonal, swapped, last, length-times}
+use Rattle.steps.specs.Residues.{back}
+use Rattle.steps.specs.Closing.{isZero, swaps, phase, closing, phase-few, Last, diagonal, swapped, last, length-times}
 use Rattle.synthesis_of_clifford_t.specs.Code.{small-turned}
 
 -- ---- which power of omega

@@ -22,11 +22,11 @@ use Rattle.unitary.specs.Acts.{Good, turnedBack}
 use Rattle.unitary.specs.Checks.{bothTest}
 use Rattle.synthesis_of_clifford_t.specs.declared.Reduction as declared
 use Rattle.synthesis_of_clifford_t.specs.declared.Reduction.the-variants as variants
-use Rattle.synthesis_of_clifford_t.specs.Residues.{back, powerBy, fallsBy, powerBy-few}
-use Rattle.synthesis_of_clifford_t.specs.Step.{Ready, Reduction, Ended, Stepped, reduction, power, falls, next}
-use Rattle.synthesis_of_clifford_t.specs.Step.{explicit, fallen, stayed, falls-even, stays-once}
-use Rattle.synthesis_of_clifford_t.specs.Step.{fallen-divided, stayed-divided, next-falls, next-stays}
-use Rattle.synthesis_of_clifford_t.specs.Synthesised.{reduction-stepped}
+use Rattle.steps.specs.Residues.{back, powerBy, fallsBy, powerBy-few}
+use Rattle.steps.specs.Step.{Ready, Reduction, Ended, Stepped, reduction, power, falls, next}
+use Rattle.steps.specs.Step.{explicit, fallen, stayed, falls-even, stays-once}
+use Rattle.steps.specs.Step.{fallen-divided, stayed-divided, next-falls, next-stays}
+use Rattle.steps.specs.Synthesised.{reduction-stepped}
 
 -- a reduction's answer as the definition has it
 abbrev pub answerOf : declared.Reduction → Reduction

@@ -8,11 +8,11 @@ use native.Mathlib.Omega.{arith}
 use lib.ListN.{length, length-append}
 use Rattle.exact.specs.Meaning.Word.{Letter}
 use Rattle.exact.specs.Meaning.Triple.{Triple}
-use Rattle.synthesis_of_clifford_t.specs.Step.{Ready, block, power, next, next-ready, next-n}
-use Rattle.synthesis_of_clifford_t.specs.Closing.{closing, closing-length}
-use Rattle.synthesis_of_clifford_t.specs.Steps.{left, left-few, left-next, letters, letters-end, letters-more}
-use Rattle.synthesis_of_clifford_t.specs.Steps.{steps, steps-end, steps-more}
-use Rattle.synthesis_of_clifford_t.specs.Counts.{block-length}
+use Rattle.steps.specs.Step.{Ready, block, power, next, next-ready, next-n}
+use Rattle.steps.specs.Closing.{closing, closing-length}
+use Rattle.steps.specs.Steps.{left, left-few, left-next, letters, letters-end, letters-more}
+use Rattle.steps.specs.Steps.{steps, steps-end, steps-more}
+use Rattle.steps.specs.Counts.{block-length}
 
 pub record Progress (s t : Triple) (u : List Letter) (i : ℕ) : Type 0 where
   pub ready : Ready t

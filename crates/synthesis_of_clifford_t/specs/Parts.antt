@@ -22,11 +22,11 @@ use Rattle.exact.specs.Cases.Letters.{bytes-length}
 use Rattle.writing.specs.Codes.{bytes-append}
 use Rattle.synthesis_of_clifford_t.specs.declared.Reduction as declared
 use Rattle.synthesis_of_clifford_t.specs.declared.Reduction.the-variants as variants
-use Rattle.synthesis_of_clifford_t.specs.Step.{Stepped, reduction, block, power, power-few, next}
-use Rattle.synthesis_of_clifford_t.specs.Closing.{closing}
-use Rattle.synthesis_of_clifford_t.specs.Steps.{left, left-next, letters}
-use Rattle.synthesis_of_clifford_t.specs.Counts.{block-length}
-use Rattle.synthesis_of_clifford_t.specs.Synthesised.{reduction-stepped}
+use Rattle.steps.specs.Step.{Stepped, reduction, block, power, power-few, next}
+use Rattle.steps.specs.Closing.{closing}
+use Rattle.steps.specs.Steps.{left, left-next, letters}
+use Rattle.steps.specs.Counts.{block-length}
+use Rattle.steps.specs.Synthesised.{reduction-stepped}
 use Rattle.synthesis_of_clifford_t.specs.Loop.{Progress, progress-start, progress-step, progress-room, progress-letters, progress-length}
 use Rattle.synthesis_of_clifford_t.specs.Code.{answerOf, good-ready}
 

@@ -23,10 +23,10 @@ use Rattle.ring.specs.Meaning.{quad}
 use Rattle.ring.specs.declared.ZOmega.{ZOmega}
 use Rattle.unitary.specs.Meaning.{given}
 use Rattle.synthesis_of_clifford_t.specs.declared.Synthesis.{Synthesis}
-use Rattle.synthesis_of_clifford_t.specs.Residues.{powerBy, back}
-use Rattle.synthesis_of_clifford_t.specs.Step.{block, power}
-use Rattle.synthesis_of_clifford_t.specs.Closing.{closing}
-use Rattle.synthesis_of_clifford_t.specs.Steps.{gathered, letters}
+use Rattle.steps.specs.Residues.{powerBy, back}
+use Rattle.steps.specs.Step.{block, power}
+use Rattle.steps.specs.Closing.{closing}
+use Rattle.steps.specs.Steps.{gathered, letters}
 use Rattle.synthesis_of_clifford_t.specs.Meaning.{refused, counts, asked, refusals, SynthesiseOutcome}
 
 abbrev number : ℤ → ℤ → ℤ → ℤ → ZOmega

@@ -6,7 +6,7 @@ use denote.Ref.{now}
 use Rattle.exact.specs.Meaning.Word.{Letter, bytes}
 use Rattle.unitary.specs.Meaning.{triple}
 use Rattle.writing.specs.Put.{Put}
-use Rattle.synthesis_of_clifford_t.specs.Steps.{letters}
+use Rattle.steps.specs.Steps.{letters}
 use Rattle.synthesis_of_clifford_t.specs.Code.{good-ready}
 use Rattle.synthesis_of_clifford_t.specs.Answer.{word-is, len-inside, word-long, normalised}
 use borrow.Author.Needs.{needs}

@@ -2,7 +2,7 @@
 -- rest; the measure is how many steps there may be.
 use native.Mathlib.Omega.{arith}
 use Rattle.unitary.specs.Meaning.{triple}
-use Rattle.synthesis_of_clifford_t.specs.Steps.{left}
+use Rattle.steps.specs.Steps.{left}
 use Rattle.synthesis_of_clifford_t.specs.Parts.{Writing, writing-start, still-good, still-few, len-inside, length-kept, block-fits, not-ended}
 use Rattle.synthesis_of_clifford_t.specs.Parts.{step-few, step-nearer, step-room, step-writing, end-room, end-fits, end-put}
 use borrow.Author.Needs.{needs}

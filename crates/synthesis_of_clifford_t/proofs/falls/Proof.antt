@@ -2,7 +2,7 @@
 use mathlib.Core.Path.{ap₂}
 use lib.Dec.{eqb}
 use borrow.Author.Needs.{needs}
-use Rattle.synthesis_of_clifford_t.specs.Residues.{fallsBy}
+use Rattle.steps.specs.Residues.{fallsBy}
 use Rattle.synthesis_of_clifford_t.proofs.falls.Statement.{statement}
 use Rattle.synthesis_of_clifford_t.proofs.falls.Tie as tie
 

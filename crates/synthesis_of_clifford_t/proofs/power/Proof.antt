@@ -1,7 +1,7 @@
 -- `synthesis_of_clifford_t::power` is m by the table: its two cases are those of the definition. Assumes nothing.
 use native.Mathlib.Omega.{arith}
 use borrow.Author.Needs.{needs}
-use Rattle.synthesis_of_clifford_t.specs.Residues.{bitShift-few, power-less, power-not-less}
+use Rattle.steps.specs.Residues.{bitShift-few, power-less, power-not-less}
 use Rattle.synthesis_of_clifford_t.proofs.power.Statement.{statement}
 use Rattle.synthesis_of_clifford_t.proofs.power.Tie as tie
 

@@ -15,9 +15,9 @@ use Rattle.clifford.specs.declared.Axis.the-variants as Axis
 use Rattle.clifford.specs.declared.Clifford.{Clifford}
 use Rattle.clifford.specs.Cliffords.{mulC, tconjC, splitC}
 use Rattle.reading.specs.Readings.{State, start, tee, read, run, run-append, prefix, prefix-tees, sizeOf, tailAt, shape, spelled, normal, normal-of}
-use Rattle.synthesis_of_clifford_t.specs.Step.{Ready}
-use Rattle.synthesis_of_clifford_t.specs.Steps.{letters}
-use Rattle.synthesis_of_clifford_t.specs.Tees.{beginning-kept}
+use Rattle.steps.specs.Step.{Ready}
+use Rattle.steps.specs.Steps.{letters}
+use Rattle.steps.specs.Tees.{beginning-kept}
 
 -- a letter meets a syllable of what was read: it is T, taken through the Clifford it leaves no H or SH in front of itself, and there is a
 -- last syllable, the T at the very front among them

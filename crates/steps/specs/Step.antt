@@ -29,8 +29,8 @@ use Rattle.exact.specs.Matrices.Words.{word-append}
 use Rattle.exact.specs.Matrices.Triples.{act, acts, unitary-same, unitary-act}
 use Rattle.exact.specs.Matrices.Divided.{Divided}
 use Rattle.exact.specs.Matrices.Least.{reduced-test, lowered, lowered-same, modEight, Reduces, reduce, reduce-reduces, answer-unique}
-use Rattle.synthesis_of_clifford_t.specs.Residues.{odds, opposite, back, powerBy-few, powerOf, fallsOf}
-use Rattle.synthesis_of_clifford_t.specs.Residues.{agreeing, differing, stays-class, one-class, four-classes, class-0000, class-0001}
+use Rattle.steps.specs.Residues.{odds, opposite, back, powerBy-few, powerOf, fallsOf}
+use Rattle.steps.specs.Residues.{agreeing, differing, stays-class, one-class, four-classes, class-0000, class-0001}
 
 pub record Ready (t : Triple) : Type 0 where
   pub unitary : Unitary t

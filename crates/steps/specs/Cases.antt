@@ -12,10 +12,10 @@ use Rattle.exact.specs.Meaning.Word.{Letter, H, S, X, W, T′}
 use Rattle.exact.specs.Meaning.Triple.{Triple}
 use Rattle.exact.specs.Cases.Letters.{eqWord, eqWord-is}
 use Rattle.exact.specs.Matrices.Least.{reduce}
-use Rattle.synthesis_of_clifford_t.specs.Residues.{powerBy, fallsBy, back}
-use Rattle.synthesis_of_clifford_t.specs.Step.{next}
-use Rattle.synthesis_of_clifford_t.specs.Closing.{closing}
-use Rattle.synthesis_of_clifford_t.specs.Steps.{gathered, letters, steps}
+use Rattle.steps.specs.Residues.{powerBy, fallsBy, back}
+use Rattle.steps.specs.Step.{next}
+use Rattle.steps.specs.Closing.{closing}
+use Rattle.steps.specs.Steps.{gathered, letters, steps}
 
 abbrev quad : ℤ → ℤ → ℤ → ℤ → Ω
 quad a b c d = record { a = a; b = b; c = c; d = d }

@@ -10,9 +10,9 @@ use Rattle.exact.specs.Meaning.Word.{Letter, word}
 use Rattle.exact.specs.Meaning.Triple.{Triple, entries}
 use Rattle.exact.specs.Matrices.Same.{Same-refl, Same-trans, Same-of, Same-mul}
 use Rattle.exact.specs.Matrices.Words.{word-append}
-use Rattle.synthesis_of_clifford_t.specs.Step.{Ready, block, power, falls, next, next-ready, step-same}
-use Rattle.synthesis_of_clifford_t.specs.Step.{next-falls, next-stays, then-falls}
-use Rattle.synthesis_of_clifford_t.specs.Closing.{closing, closing-is}
+use Rattle.steps.specs.Step.{Ready, block, power, falls, next, next-ready, step-same}
+use Rattle.steps.specs.Step.{next-falls, next-stays, then-falls}
+use Rattle.steps.specs.Closing.{closing, closing-is}
 
 -- ---- how many steps there may be: two for each k, or one less where the first of them lowers k
 abbrev leftBy : Bool → ℕ → ℕ

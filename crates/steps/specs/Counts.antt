@@ -16,11 +16,11 @@ use Rattle.exact.specs.Meaning.Limits.{deepest, enough}
 use Rattle.exact.specs.Matrices.Same.{Same-sym, Same-trans}
 use Rattle.exact.specs.Unique.Tails.{tees-append}
 use Rattle.exact.specs.Unique.Normal.{normal-fewest}
-use Rattle.synthesis_of_clifford_t.specs.Step.{Ready, block, power, next}
-use Rattle.synthesis_of_clifford_t.specs.Closing.{closing, spell, lead, swaps, quarters, phase}
-use Rattle.synthesis_of_clifford_t.specs.Closing.{closing-length, closing-tees, length-times}
-use Rattle.synthesis_of_clifford_t.specs.Steps.{letters, letters-end, letters-more, letters-same}
-use Rattle.synthesis_of_clifford_t.specs.Steps.{steps, by-steps, steps-more, steps-few}
+use Rattle.steps.specs.Step.{Ready, block, power, next}
+use Rattle.steps.specs.Closing.{closing, spell, lead, swaps, quarters, phase}
+use Rattle.steps.specs.Closing.{closing-length, closing-tees, length-times}
+use Rattle.steps.specs.Steps.{letters, letters-end, letters-more, letters-same}
+use Rattle.steps.specs.Steps.{steps, by-steps, steps-more, steps-few}
 
 -- ---- before normalising
 pub block-length : (m : ℕ) → (1 ≤ length (block m)) × (length (block m) ≤ 3)

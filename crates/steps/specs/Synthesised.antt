@@ -13,10 +13,10 @@ use Rattle.exact.specs.Meaning.Limits.{deepest, enough}
 use Rattle.exact.specs.Matrices.Same.{Same-sym, Same-trans, Same-of}
 use Rattle.exact.specs.Matrices.Triples.{unitary-same, tripleOf, word-triple, word-unitary}
 use Rattle.exact.specs.Matrices.Least.{Reduces, reduce, reduce-reduces, answer-unique, least-unique, least-same}
-use Rattle.synthesis_of_clifford_t.specs.Step.{Ready, Ended, Stepped, reduction, block}
-use Rattle.synthesis_of_clifford_t.specs.Step.{power, power-few, next, next-ready, next-n, step-same}
-use Rattle.synthesis_of_clifford_t.specs.Steps.{left, left-few, left-next, letters, letters-same}
-use Rattle.synthesis_of_clifford_t.specs.Counts.{answer-length}
+use Rattle.steps.specs.Step.{Ready, Ended, Stepped, reduction, block}
+use Rattle.steps.specs.Step.{power, power-few, next, next-ready, next-n, step-same}
+use Rattle.steps.specs.Steps.{left, left-few, left-next, letters, letters-same}
+use Rattle.steps.specs.Counts.{answer-length}
 
 -- ---- a step: one of the four blocks, and a reduced unitary triple from which fewer steps are left
 pub record StepTo (t : Triple) (m : ℕ) (s : Triple) : Type 0 where

@@ -20,8 +20,8 @@ use Rattle.exact.specs.Algebra.Omega.{omegas-laws, quad-path}
 use Rattle.exact.specs.Algebra.OmegaPower.{which, which-omega^, omega^-mod, omega^-add}
 use Rattle.exact.specs.Matrices.Triples.{act, tripleOf, word-triple}
 use Rattle.exact.specs.Unique.Tails.{tees-append}
-use Rattle.synthesis_of_clifford_t.specs.Residues.{back}
-use Rattle.synthesis_of_clifford_t.specs.Step.{actAll, turned, at-n, n-same}
+use Rattle.steps.specs.Residues.{back}
+use Rattle.steps.specs.Step.{actAll, turned, at-n, n-same}
 
 -- ---- the letters
 abbrev zeroZ : ℤ → Bool

@@ -1,0 +1,1 @@
+// The steps of exact synthesis, as mathematics: no function. specs/ has it.
