@@ -1,14 +1,18 @@
 -- The size of a machine's ring number, and what a turn and a sign make of it. Assumes nothing.
 use mathlib.Core.Path.{_≡_, sym, _∙_, ap}
 use mathlib.Core.List.{List, [], _∷_}
-use Prim.Native.Nat.{ℕ, _-_, _^_, _<_}
+use Prim.Native.Nat.{ℕ, _-_, _^_, _≤_, _<_}
 use native.Mathlib.Omega.{arith}
-use lib.IntN.{ℤ, pos, _-ℤ_}
+use lib.IntN.{ℤ, pos, natAbs, _-ℤ_}
+use mir.Syntax.{w64}
+use mir.Val.{SFits}
+use mir.Facts.{toZ-ofZ}
 use Rattle.exact.specs.Meaning.Number.{Quad, Ω, ints, quads, power, negQ, mulQ, omega′, omega^, Sized}
 use Rattle.exact.specs.Algebra.Ring.{ints-laws}
 use Rattle.exact.specs.Algebra.Solver.{Expr, con, _⊝_, exprs}
 use Rattle.exact.specs.Algebra.Omega.{X₀, parts, solveQ}
-use Rattle.exact.specs.Whole.Size.{natAbs-sub}
+use Rattle.exact.specs.Whole.Size.{natAbs-sub, sfits-abs}
+use Rattle.exact.specs.Whole.Machine.{held}
 use Rattle.ring.specs.declared.ZOmega.{ZOmega}
 use Rattle.ring.specs.Meaning.{quad}
 
@@ -31,6 +35,12 @@ negated x = solveQ ints ints-laws (parts x []) (negQ exprs X₀) less (tt, tt, t
   where
     less : Quad Expr
     less = record { a = con (pos 0) ⊝ X₀ .a; b = con (pos 0) ⊝ X₀ .b; c = con (pos 0) ⊝ X₀ .c; d = con (pos 0) ⊝ X₀ .d }
+
+pub opposite-fits : (z : ℤ) → natAbs z ≤ 2 ^ 31 → SFits w64 (pos 0 -ℤ held w64 z)
+opposite-fits z l = rw (toZ-ofZ (fits z l)) (sfits-abs (omega (arith, natAbs-sub (pos 0) z)))
+  where
+    fits : (z : ℤ) → natAbs z ≤ 2 ^ 31 → SFits w64 z
+    fits z l = sfits-abs (omega arith)
 
 -- ---- by the inverse of omega, once, twice and three times
 abbrev turns : ℕ → Quad Expr

@@ -3,7 +3,7 @@
 use mathlib.Core.Path.{_≡_, refl, sym, _∙_, ap, subst}
 use mathlib.Core.Bool.{Bool, true, false}
 use mathlib.Core.List.{List, [], _∷_, _++_, append-assoc}
-use Prim.Native.Nat.{_+_, _≤_, _<_}
+use Prim.Native.Nat.{_+_, _<_}
 use native.Mathlib.Omega.{arith}
 use Rattle.exact.specs.Meaning.Word.{Letter, I, H, S, X, W, T′, tees}
 use Rattle.exact.specs.Meaning.Normal.{Syllable, HT, SHT, tailWord, orI, spell}

@@ -6,13 +6,13 @@ use borrow.Author.Needs.{needs}
 use Rattle.exact.specs.Algebra.Omega.{quad-path}
 use Rattle.exact.specs.Whole.Machine.{arg, lit, _∸_}
 use Rattle.ring.specs.Meaning.{quad}
-use Rattle.ring.specs.Number.{turned}
-use Rattle.ring.specs.Code.{fits₁, is₁}
+use Rattle.ring.specs.Number.{turned, opposite-fits}
+use Rattle.ring.specs.Code.{is₁}
 use Rattle.ring.proofs.ZOmega.mul_by_omega.Statement.{statement}
 use Rattle.ring.proofs.ZOmega.mul_by_omega.Tie as tie
 
 sub-t6 : tie.Need-sub-t6
-sub-t6 c = search (needs, fits₁ (2 ^ 31) (lit (pos 0) ∸ arg 0) tt)
+sub-t6 c = search opposite-fits
 
 returns : tie.Need-returns
 returns c =

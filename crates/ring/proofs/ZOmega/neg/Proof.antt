@@ -6,22 +6,22 @@ use borrow.Author.Needs.{needs}
 use Rattle.exact.specs.Algebra.Omega.{quad-path}
 use Rattle.exact.specs.Whole.Machine.{arg, lit, _∸_}
 use Rattle.ring.specs.Meaning.{quad}
-use Rattle.ring.specs.Number.{negated}
-use Rattle.ring.specs.Code.{fits₁, is₁}
+use Rattle.ring.specs.Number.{negated, opposite-fits}
+use Rattle.ring.specs.Code.{is₁}
 use Rattle.ring.proofs.ZOmega.neg.Statement.{statement}
 use Rattle.ring.proofs.ZOmega.neg.Tie as tie
 
 sub-t6 : tie.Need-sub-t6
-sub-t6 c = search (needs, fits₁ (2 ^ 31) (lit (pos 0) ∸ arg 0) tt)
+sub-t6 c = search opposite-fits
 
 sub-t7 : tie.Need-sub-t7
-sub-t7 c = search (needs, fits₁ (2 ^ 31) (lit (pos 0) ∸ arg 1) tt)
+sub-t7 c = search opposite-fits
 
 sub-t8 : tie.Need-sub-t8
-sub-t8 c = search (needs, fits₁ (2 ^ 31) (lit (pos 0) ∸ arg 2) tt)
+sub-t8 c = search opposite-fits
 
 sub-t9 : tie.Need-sub-t9
-sub-t9 c = search (needs, fits₁ (2 ^ 31) (lit (pos 0) ∸ arg 3) tt)
+sub-t9 c = search opposite-fits
 
 returns : tie.Need-returns
 returns c =
