@@ -1,57 +1,48 @@
 -- Which bytes are letters, and the first that is none. Assumes nothing.
-use mathlib.Core.Path.{_≡_, refl, sym, ap₂, subst}
+use mathlib.Core.Path.{_≡_, sym}
 use mathlib.Core.Bool.{Bool, true, false, not}
-use mathlib.Core.List.{List, [], _∷_}
-use Prim.Native.Nat.{ℕ, suc, _+_, _≤_, _<_}
+use mathlib.Core.List.{List}
+use Prim.Native.Nat.{ℕ, _+_, _≤_, _<_}
 use native.Mathlib.Omega.{arith}
 use borrow.Author.Tests.{eqb-true, eqb-false, not-true, not-false}
 use lib.Dec.{eqb}
 use lib.ListN.{length, getD}
-use Rattle.exact.specs.Meaning.Word.{Letter, I, H, S, X, W, T′, byte, bytes, In, FirstOutside, job2}
-use Rattle.exact.specs.Cases.Letters.{letterOf, lettersOf}
+use Rattle.exact.specs.Meaning.Word.{Letter, I, H, S, X, W, T′, byte, IsLetter, FirstOutside}
+use Rattle.exact.specs.Cases.Letters.{Inside, inside-more}
 use Rattle.exact.specs.Whole.Parity.{false-true}
 use Rattle.exact.specs.Meaning.Outcome.{Decides}
 
-pub record Scanned (alphabet : Letter → Bool) (bs : List ℕ) (r : ℕ) : Type 0 where
+pub record Scanned (bs : List ℕ) (r : ℕ) : Type 0 where
   pub most : r ≤ length bs
-  pub before : (i : ℕ) → i < r → In alphabet (getD bs i 0)
-  pub outside : r < length bs → In alphabet (getD bs r 0) → ⊥
-
--- what holds at each place before i, and at i, holds before i + 1
-below-next : {P : ℕ → Type 0} (i : ℕ) → ((j : ℕ) → j < i → P j) → P i → (j : ℕ) → j < i + 1 → P j
-below-next {P} i h p j l = go (eqb j i) refl
-  where
-    go : (b : Bool) → eqb j i ≡ b → P j
-    go true e = subst P (sym (eqb-true j i e)) p
-    go false e = h j (omega (arith, eqb-false j i e))
+  pub before : Inside bs r
+  pub outside : r < length bs → IsLetter (getD bs r 0) → ⊥
 
 -- one place more, and the two ways out of the scan
-module _ {alphabet : Letter → Bool} (bs : List ℕ) (i : ℕ) (passed : (j : ℕ) → j < i → In alphabet (getD bs j 0)) where
-  module _ {b : Bool} (d : Decides (In alphabet (getD bs i 0)) b) where
-    pub scanned-more : not b ≡ false → (j : ℕ) → j < i + 1 → In alphabet (getD bs j 0)
-    scanned-more t = below-next i passed (d .yes (not-false b t))
+module _ (bs : List ℕ) (i : ℕ) (passed : Inside bs i) where
+  module _ {b : Bool} (d : Decides (IsLetter (getD bs i 0)) b) where
+    pub scanned-more : not b ≡ false → Inside bs (i + 1)
+    scanned-more t = inside-more bs i passed (d .yes (not-false b t))
 
-    pub scanned-stop : not b ≡ true → i < length bs → Scanned alphabet bs i
+    pub scanned-stop : not b ≡ true → i < length bs → Scanned bs i
     scanned-stop t h = record { most = omega arith; before = passed; outside = λ l. d .no (not-true b t) }
 
-  pub scanned-end : i ≤ length bs → length bs ≤ i → Scanned alphabet bs i
+  pub scanned-end : i ≤ length bs → length bs ≤ i → Scanned bs i
   scanned-end l h = record { most = l; before = passed; outside = λ k. absurd (omega arith) }
 
-pub scanned-first : {alphabet : Letter → Bool} {bs : List ℕ} {r : ℕ} → Scanned alphabet bs r → r < length bs → FirstOutside alphabet bs r
+pub scanned-first : {bs : List ℕ} {r : ℕ} → Scanned bs r → r < length bs → FirstOutside bs r
 scanned-first s h = record { there = h; outside = s .outside h; before = s .before }
 
-pub scanned-all : {alphabet : Letter → Bool} {bs : List ℕ} {r : ℕ} → Scanned alphabet bs r → length bs ≤ r → (i : ℕ) → i < length bs
-    → In alphabet (getD bs i 0)
+pub scanned-all : {bs : List ℕ} {r : ℕ} → Scanned bs r → length bs ≤ r → Inside bs (length bs)
 scanned-all s h i l = s .before i (omega arith)
 
--- ---- a letter of job 2
-pub letter-yes : (l : Letter) (g : ℕ) → g ≡ byte l → Decides (In job2 g) true
-letter-yes l g e = record { yes = λ p. record { letter-there = l; allowed = tt; is = sym e }; no = λ p. absurd (false-true (sym p)) }
+-- ---- a letter
+pub letter-yes : (l : Letter) (g : ℕ) → g ≡ byte l → Decides (IsLetter g) true
+letter-yes l g e = record { yes = λ p. record { letter-there = l; is = sym e }; no = λ p. absurd (false-true (sym p)) }
 
-pub letter-last : (g : ℕ) → (g ≡ 73 → ⊥) → (g ≡ 72 → ⊥) → (g ≡ 83 → ⊥) → (g ≡ 88 → ⊥) → (g ≡ 87 → ⊥) → Decides (In job2 g) (eqb g 84)
+pub letter-last : (g : ℕ) → (g ≡ 73 → ⊥) → (g ≡ 72 → ⊥) → (g ≡ 83 → ⊥) → (g ≡ 88 → ⊥) → (g ≡ 87 → ⊥) → Decides (IsLetter g) (eqb g 84)
 letter-last g i h s x w =
     record {
-      yes = λ p. record { letter-there = T′; allowed = tt; is = sym (eqb-true g 84 p) };
+      yes = λ p. record { letter-there = T′; is = sym (eqb-true g 84 p) };
       no = λ p q. none (q .letter-there) (q .is) p;
     }
   where
@@ -62,19 +53,3 @@ letter-last g i h s x w =
     none X e p = x (sym e)
     none W e p = w (sym e)
     none T′ e p = eqb-false g 84 p (sym e)
-
--- ---- bytes that are all letters spell a word
-pub all-spell : (bs : List ℕ) → ((i : ℕ) → i < length bs → In job2 (getD bs i 0)) → bytes (lettersOf bs) ≡ bs
-all-spell [] h = refl
-all-spell (b ∷ bs) h = ap₂ _∷_ (one b (h 0 (omega arith))) (all-spell bs (λ i l. h (suc i) (omega arith)))
-  where
-    one : (b : ℕ) → In job2 b → byte (letterOf b) ≡ b
-    one b q = subst (λ (n : ℕ). byte (letterOf n) ≡ n) (q .is) (each (q .letter-there))
-      where
-        each : (l : Letter) → byte (letterOf (byte l)) ≡ byte l
-        each I = refl
-        each H = refl
-        each S = refl
-        each X = refl
-        each W = refl
-        each T′ = refl

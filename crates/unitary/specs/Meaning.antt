@@ -4,7 +4,7 @@ use mathlib.Core.List.{List}
 use Prim.Native.Nat.{ℕ, _<_}
 use lib.IntN.{ℤ, pos}
 use Rattle.exact.specs.Meaning.Matrix.{Matrix, Same}
-use Rattle.exact.specs.Meaning.Word.{Letter, word, job2, Spelled}
+use Rattle.exact.specs.Meaning.Word.{Letter, word, Spelled}
 use Rattle.exact.specs.Meaning.Triple.{Triple, entries, Reduced}
 use Rattle.exact.specs.Meaning.Limits.{Accepted}
 use Rattle.exact.specs.Meaning.Outcome.{Outcome, none as last, _then_}
@@ -58,4 +58,4 @@ pub record Multiplies (u : List Letter) (r : FromGates) : Type 0 where
   pub answer : Answers (word u) (triple (r .matrix))
 
 abbrev pub MatrixOutcome : List ℕ → FromGates → Type 0
-MatrixOutcome w r = Outcome stopped (Spelled Multiplies w) (long w then letter job2 w then deep w then last) r
+MatrixOutcome w r = Outcome stopped (Spelled Multiplies w) (long w then letter w then deep w then last) r

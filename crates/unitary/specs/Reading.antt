@@ -8,7 +8,7 @@ use borrow.Author.Tests.{eqb-true, eqb-false}
 use lib.Dec.{eqb}
 use lib.ListN.{length, drop, getD}
 use Rattle.exact.specs.Meaning.Matrix.{Same, Least}
-use Rattle.exact.specs.Meaning.Word.{Letter, word, bytes, job2, Spelled}
+use Rattle.exact.specs.Meaning.Word.{Letter, word, bytes, Spelled}
 use Rattle.exact.specs.Meaning.Word as Word
 use Rattle.exact.specs.Meaning.Triple.{entries}
 use Rattle.exact.specs.Meaning.Endings.{Shallow, DeepAt}
@@ -18,14 +18,14 @@ use Rattle.exact.specs.Meaning.Outcome.{Outcome, Rung, none, _then_}
 use Rattle.exact.specs.Meaning.Refusals.{long, letter, deep}
 use Rattle.exact.specs.Outcomes.Ladder.{Passed, pass}
 use Rattle.exact.specs.Outcomes.Places.{not-both}
-use Rattle.exact.specs.Cases.Letters.{letterOf, lettersOf, bytes-inj}
+use Rattle.exact.specs.Cases.Letters.{letterOf, lettersOf, bytes-inj, bytes-back, inside-passes}
 use Rattle.exact.specs.Matrices.Same.{Same-refl, Same-trans, Same-of, Same-mul}
 use Rattle.exact.specs.Matrices.Least.{least-same, test-reduced}
 use Rattle.exact.specs.Matrices.Triples.{identity}
 use Rattle.unitary.specs.declared.DOmegaUnitary.{DOmegaUnitary}
 use Rattle.unitary.specs.declared.FromGates.{FromGates}
 use Rattle.unitary.specs.Meaning.{triple, Answers, stopped, Multiplies, MatrixOutcome}
-use Rattle.unitary.specs.Letters.{Scanned, scanned-first, scanned-all, all-spell}
+use Rattle.unitary.specs.Letters.{Scanned, scanned-first, scanned-all}
 use Rattle.unitary.specs.Acts.{Good, Acted}
 
 -- the letters from place i on have been read
@@ -120,18 +120,18 @@ module _ (w : List ℕ) (r : FromGates) where
   pub refused-long : longest < length w → r ≡ stopped Limits.Long 0 → MatrixOutcome w r
   refused-long l e = Rung.given 0 (l, refl) e
 
-  pub refused-letter : (p : ℕ) → length w ≤ longest → Scanned job2 w p → p < length w → r ≡ stopped Limits.Letter p → MatrixOutcome w r
+  pub refused-letter : (p : ℕ) → length w ≤ longest → Scanned w p → p < length w → r ≡ stopped Limits.Letter p → MatrixOutcome w r
   refused-letter p l s h e = Rung.passed (λ q k. omega (arith, k .0)) (Rung.given p (scanned-first s h) e)
 
-module _ (w : List ℕ) (few : length w ≤ longest) (b : ℕ) (s : Scanned job2 w b) (all : length w ≤ b) where
+module _ (w : List ℕ) (few : length w ≤ longest) (b : ℕ) (s : Scanned w b) (all : length w ≤ b) where
   spelled : bytes (lettersOf w) ≡ w
-  spelled = all-spell w (scanned-all s all)
+  spelled = bytes-back w (scanned-all s all)
 
-  letters-passed : Passed (long w then letter job2 w then none)
-  letters-passed = ((λ p h. omega (arith, h .0)), ((λ p h. h .outside (scanned-all s all p (h .there))), tt))
+  letters-passed : Passed (long w then letter w then none)
+  letters-passed = ((λ p h. omega (arith, h .0)), (inside-passes w (scanned-all s all), tt))
 
   behind : (r : FromGates) → Outcome stopped (Spelled Multiplies w) (deep w then none) r → MatrixOutcome w r
-  behind = pass stopped (Spelled Multiplies w) (long w then letter job2 w then none) (deep w then none) letters-passed
+  behind = pass stopped (Spelled Multiplies w) (long w then letter w then none) (deep w then none) letters-passed
 
   module _ (i : ℕ) (some : 0 < i) (inside : i ≤ length w) (t r : DOmegaUnitary) (read : Read (lettersOf w) i t)
       (acted : Acted (letterOf (getD w (i - 1) 0)) t r) where

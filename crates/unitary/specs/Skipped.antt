@@ -4,7 +4,7 @@ use mathlib.Core.Path.{_≡_, refl}
 use Prim.Native.Nat.{ℕ}
 use native.Mathlib.Omega.{arith}
 use lib.IntN.{pos}
-use Rattle.exact.specs.Meaning.Word.{job2, Spelled}
+use Rattle.exact.specs.Meaning.Word.{Spelled}
 use Rattle.exact.specs.Meaning.Triple.{entries}
 use Rattle.exact.specs.Meaning.Limits as Limits
 use Rattle.exact.specs.Meaning.Outcome.{none, _then_}
@@ -36,5 +36,5 @@ exponent-first =
 -- ---- the word HHi: refused 2, at place 2 and at no other
 pub place-kept : (r : FromGates) → MatrixOutcome third r → r ≡ stopped Limits.Letter 2
 place-kept =
-    only-refused stopped (Spelled Multiplies third) (letter job2 third) one-letter 2 (i-third job2 tt) (long third then none) (deep third then none)
+    only-refused stopped (Spelled Multiplies third) (letter third) one-letter 2 i-third (long third then none) (deep third then none)
     ((λ p h. omega (arith, h .0)), tt)

@@ -4,7 +4,7 @@ use mathlib.Core.List.{List}
 use Prim.Native.Nat.{ℕ}
 use lib.IntN.{ℤ}
 use Rattle.exact.specs.Meaning.Matrix.{Matrix, Same}
-use Rattle.exact.specs.Meaning.Word.{Letter, word, job2, Spelled}
+use Rattle.exact.specs.Meaning.Word.{Letter, word, Spelled}
 use Rattle.exact.specs.Meaning.Triple.{Triple, entries, Unitary}
 use Rattle.exact.specs.Meaning.Outcome.{none, _then_}
 use Rattle.exact.specs.Meaning.Refusals.{long, letter, deep, checks}
@@ -47,5 +47,5 @@ one-matrix u r s a b =
 
 pub matrix-unique : (w : List ℕ) → Only (MatrixOutcome w)
 matrix-unique w =
-    one-outcome stopped (Spelled Multiplies w) (long w then letter job2 w then deep w then none) (one-plain, (one-letter, (one-deep, tt)))
+    one-outcome stopped (Spelled Multiplies w) (long w then letter w then deep w then none) (one-plain, (one-letter, (one-deep, tt)))
     (λ h. one-spelled Multiplies one-matrix w)

@@ -6,7 +6,7 @@ ghost use lib.IntN.{pos, natAbs};
 ghost use Rattle.exact.specs.Meaning.Limits.{largest, deepest};
 ghost use Rattle.exact.specs.Meaning.Number.{Sized};
 ghost use Rattle.exact.specs.Meaning.Word as Word;
-ghost use Rattle.exact.specs.Meaning.Word.{In};
+ghost use Rattle.exact.specs.Meaning.Word.{IsLetter};
 ghost use Rattle.exact.specs.Meaning.Triple.{entries};
 ghost use Rattle.exact.specs.Meaning.Refusals.{InCoefficients};
 ghost use Rattle.exact.specs.Cases.Letters.{letterOf};
@@ -420,9 +420,8 @@ pub fn reduce(k: i64, n: u8, z: ZOmega, w: ZOmega) -> Checked
 
 // ---- words
 
-// A letter of job 2.
 fn is_letter(g: u8) -> bool
-    ensures { λ r. ⌜ Decides (In Word.job2 g) r ⌝ }
+    ensures { λ r. ⌜ Decides (IsLetter g) r ⌝ }
 {
     if g == b'I' {
         return true;
@@ -444,7 +443,7 @@ fn is_letter(g: u8) -> bool
 
 // The first place whose byte is no letter, or the length.
 fn first_outside(word: &[u8]) -> usize
-    ensures { λ r. ⌜ Scanned Word.job2 (now (word .entry)) r ⌝ }
+    ensures { λ r. ⌜ Scanned (now (word .entry)) r ⌝ }
 {
     let mut i: usize = 0;
     while i < word.len() {

@@ -1,13 +1,14 @@
 -- A letter is told by its byte, and a word by its bytes; equality of words by one computed test. Assumes nothing.
-use mathlib.Core.Path.{_≡_, refl, sym, _∙_, ap, ap₂}
+use mathlib.Core.Path.{_≡_, refl, sym, _∙_, ap, ap₂, subst}
 use mathlib.Core.Bool.{Bool, true, false, cond, _&&_}
-use mathlib.Core.List.{List, [], _∷_}
-use Prim.Native.Nat.{ℕ, zero, suc, _<_}
+use mathlib.Core.List.{List, [], _∷_, _++_}
+use Prim.Native.Nat.{ℕ, zero, suc, _+_, _<_}
 use native.Mathlib.Omega.{arith}
+use borrow.Author.Tests.{eqb-true, eqb-false}
 use lib.Dec.{T, eqb, eqb→eq}
 use lib.ListN.{length, getD}
 use mir.Facts.{and-yes}
-use Rattle.exact.specs.Meaning.Word.{Letter, I, H, S, X, W, T′, byte, bytes, job2, All, In, FirstOutside}
+use Rattle.exact.specs.Meaning.Word.{Letter, I, H, S, X, W, T′, byte, bytes, IsLetter, FirstOutside}
 
 -- the letter of a byte, I for any other byte
 abbrev pub letterOf : ℕ → Letter
@@ -39,18 +40,50 @@ pub bytes-length : (u : List Letter) → length (bytes u) ≡ length u
 bytes-length [] = refl
 bytes-length (l ∷ u) = ap suc (bytes-length u)
 
--- ---- no byte of letters of an alphabet is outside it
-all-in : (alphabet : Letter → Bool) (u : List Letter) → All alphabet u → (i : ℕ) → i < length (bytes u) → In alphabet (getD (bytes u) i 0)
-all-in alphabet [] p i h = absurd (omega arith)
-all-in alphabet (l ∷ u) p zero h = record { letter-there = l; allowed = p .0; is = refl }
-all-in alphabet (l ∷ u) p (suc i) h = all-in alphabet u (p .1) i (omega arith)
+pub lettersOf-append : (v w : List ℕ) → lettersOf (v ++ w) ≡ lettersOf v ++ lettersOf w
+lettersOf-append [] w = refl
+lettersOf-append (b ∷ v) w = ap (λ x. letterOf b ∷ x) (lettersOf-append v w)
 
-pub none-outside : (alphabet : Letter → Bool) (u : List Letter) → All alphabet u → (i : ℕ) → FirstOutside alphabet (bytes u) i → ⊥
-none-outside alphabet u p i h = h .outside (all-in alphabet u p i (h .there))
+pub lettersOf-length : (w : List ℕ) → length (lettersOf w) ≡ length w
+lettersOf-length [] = refl
+lettersOf-length (b ∷ w) = ap suc (lettersOf-length w)
 
-pub all-job2 : (u : List Letter) → All job2 u
-all-job2 [] = tt
-all-job2 (l ∷ u) = (tt, all-job2 u)
+-- ---- which bytes are letters
+pub letter-back : {b : ℕ} → IsLetter b → byte (letterOf b) ≡ b
+letter-back l = subst (λ b. byte (letterOf b) ≡ b) (l .is) (ap byte (letterOf-byte (l .letter-there)))
+
+pub is-letter : {b : ℕ} → byte (letterOf b) ≡ b → IsLetter b
+is-letter {b} e = record { letter-there = letterOf b; is = e }
+
+-- the first n bytes are
+abbrev pub Inside : List ℕ → ℕ → Type 0
+Inside w n = (i : ℕ) → i < n → IsLetter (getD w i 0)
+
+pub inside-none : (w : List ℕ) → Inside w 0
+inside-none w = λ i h. absurd (omega arith)
+
+pub inside-more : (w : List ℕ) (n : ℕ) → Inside w n → IsLetter (getD w n 0) → Inside w (n + 1)
+inside-more w n f h = λ i l. at i l (eqb i n) refl
+  where
+    at : (i : ℕ) → i < n + 1 → (b : Bool) → eqb i n ≡ b → IsLetter (getD w i 0)
+    at i l true e = subst (λ (j : ℕ). IsLetter (getD w j 0)) (sym (eqb-true i n e)) h
+    at i l false e = let g : (i ≡ n → ⊥) = eqb-false i n e in f i (omega (arith, g))
+
+-- all of a word's bytes are, and bytes that all are spell a word
+all-inside : (u : List Letter) → Inside (bytes u) (length (bytes u))
+all-inside [] i h = absurd (omega arith)
+all-inside (l ∷ u) zero h = record { letter-there = l; is = refl }
+all-inside (l ∷ u) (suc i) h = all-inside u i (omega arith)
+
+pub bytes-back : (w : List ℕ) → Inside w (length w) → bytes (lettersOf w) ≡ w
+bytes-back [] f = refl
+bytes-back (b ∷ w) f = ap₂ _∷_ (letter-back (f 0 (omega arith))) (bytes-back w (λ i h. f (suc i) (omega arith)))
+
+pub inside-passes : (w : List ℕ) → Inside w (length w) → (p : ℕ) → FirstOutside w p → ⊥
+inside-passes w f p o = o .outside (f p (o .there))
+
+pub none-outside : (u : List Letter) (p : ℕ) → FirstOutside (bytes u) p → ⊥
+none-outside u = inside-passes (bytes u) (all-inside u)
 
 -- ---- the tests
 abbrev pub eqLetter : Letter → Letter → Bool

@@ -1,5 +1,4 @@
 -- The refusals of documents 01 and 02 as values: each a number with its condition, over bytes and whole numbers.
-use mathlib.Core.Bool.{Bool}
 use mathlib.Core.List.{List}
 use Prim.Native.Nat.{ℕ, _<_}
 use lib.IntN.{ℤ, pos, natAbs}
@@ -30,9 +29,9 @@ module _ (Answer : List Letter → Type 0) where
   abbrev pub longAnswer : Refusal
   longAnswer = plain Limits.Long TooLong
 
--- 2: a byte outside the alphabet; the place is the first such
-abbrev pub letter : (Letter → Bool) → List ℕ → Refusal
-letter alphabet w = record { number = Limits.Letter; At = FirstOutside alphabet w }
+-- 2: a byte that is no letter; the place is the first such
+abbrev pub letter : List ℕ → Refusal
+letter w = record { number = Limits.Letter; At = FirstOutside w }
 
 -- 6: an ending with reduced exponent over 60; the place is the rightmost start of such an ending
 abbrev pub deep : List ℕ → Refusal

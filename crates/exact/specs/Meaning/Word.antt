@@ -1,9 +1,8 @@
--- Letters and words, as document 01 has them: each letter's matrix, the product in reading order, T letters, bytes, and the jobs' alphabets.
+-- Letters and words, as document 01 has them: each letter's matrix, the product in reading order, T letters, bytes, and which
+-- bytes are letters. The alphabet is one for every job, I H S X W T, as document 02's request A2 has it.
 use mathlib.Core.Path.{_≡_}
-use mathlib.Core.Bool.{Bool, true, false}
 use mathlib.Core.List.{List, [], _∷_}
 use Prim.Native.Nat.{ℕ, _+_, _<_}
-use lib.Dec.{T}
 use lib.ListN.{length, getD}
 use lib.IntN.{ℤ, pos, negsuc}
 use Rattle.exact.specs.Meaning.Number.{Ops, Quad, ints, constQ, mulQ, omega′}
@@ -70,34 +69,16 @@ abbrev pub bytes : List Letter → List ℕ
 bytes [] = []
 bytes (l ∷ u) = byte l ∷ bytes u
 
--- the letters of job 2, and those of job 3
-abbrev pub job2 : Letter → Bool
-job2 l = true
-
-abbrev pub job3 : Letter → Bool
-job3 I = false
-job3 H = true
-job3 S = true
-job3 X = true
-job3 W = true
-job3 T′ = true
-
--- every letter is of an alphabet
-abbrev pub All : (Letter → Bool) → List Letter → Type 0
-All alphabet [] = Unit {0}
-All alphabet (l ∷ u) = T (alphabet l) × All alphabet u
-
--- a byte is in an alphabet: it is that of one of its letters
-pub record In (alphabet : Letter → Bool) (b : ℕ) : Type 0 where
+-- a byte is a letter's
+pub record IsLetter (b : ℕ) : Type 0 where
   pub letter-there : Letter
-  pub allowed : T (alphabet letter-there)
   pub is : byte letter-there ≡ b
 
--- the first place that has a byte outside an alphabet
-pub record FirstOutside (alphabet : Letter → Bool) (bs : List ℕ) (place : ℕ) : Type 0 where
+-- the first place whose byte is no letter's
+pub record FirstOutside (bs : List ℕ) (place : ℕ) : Type 0 where
   pub there : place < length bs
-  pub outside : In alphabet (getD bs place 0) → ⊥
-  pub before : (i : ℕ) → i < place → In alphabet (getD bs i 0)
+  pub outside : IsLetter (getD bs place 0) → ⊥
+  pub before : (i : ℕ) → i < place → IsLetter (getD bs i 0)
 
 -- the first place that has the byte b
 pub record First (b : ℕ) (bs : List ℕ) (place : ℕ) : Type 0 where

@@ -1,6 +1,5 @@
 -- Each refusal has at most one place, and a matrix one normal word. Assumes nothing.
 use mathlib.Core.Path.{_≡_, sym, _∙_, ap, subst}
-use mathlib.Core.Bool.{Bool}
 use mathlib.Core.List.{List, _++_, append-assoc}
 use Prim.Native.Nat.{ℕ, suc, _<_, _≤_}
 use native.Mathlib.Omega.{arith}
@@ -21,10 +20,10 @@ pub one-plain : {C : Type 0} (p q : ℕ) → C × (p ≡ 0) → C × (q ≡ 0) �
 one-plain p q h k = h .1 ∙ sym (k .1)
 
 -- the first such place, and the last
-pub one-letter : {alphabet : Letter → Bool} {w : List ℕ} (p q : ℕ) → FirstOutside alphabet w p → FirstOutside alphabet w q → p ≡ q
-one-letter {alphabet} {w} p q f g = omega (arith, below f g, below g f)
+pub one-letter : {w : List ℕ} (p q : ℕ) → FirstOutside w p → FirstOutside w q → p ≡ q
+one-letter {w} p q f g = omega (arith, below f g, below g f)
   where
-    below : {i j : ℕ} → FirstOutside alphabet w i → FirstOutside alphabet w j → i < j → ⊥
+    below : {i j : ℕ} → FirstOutside w i → FirstOutside w j → i < j → ⊥
     below {i} {j} f g l = f .outside (g .before i l)
 
 pub one-first : {b : ℕ} {w : List ℕ} (p q : ℕ) → First b w p → First b w q → p ≡ q

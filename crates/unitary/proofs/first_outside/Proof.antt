@@ -1,14 +1,14 @@
 -- `unitary::first_outside` meets its contract. The invariant: every byte passed is a letter; the measure is what is left of the length.
-use Prim.Native.Nat.{ℕ, _≤_, _<_, _-_}
+use Prim.Native.Nat.{_≤_, _-_}
 use native.Mathlib.Omega.{arith}
-use lib.ListN.{length, getD}
-use Rattle.exact.specs.Meaning.Word.{In, job2}
+use lib.ListN.{length}
+use Rattle.exact.specs.Cases.Letters.{Inside}
 use Rattle.unitary.specs.Letters.{scanned-more, scanned-stop, scanned-end}
 use Rattle.unitary.proofs.first_outside.Statement.{statement}
 use Rattle.unitary.proofs.first_outside.Tie as tie
 
 abbrev Inv-loop : tie.InvT-loop
-Inv-loop word i₀ i = (i ≤ length word) × ((j : ℕ) → j < i → In job2 (getD word j 0))
+Inv-loop word i₀ i = (i ≤ length word) × Inside word i
 
 abbrev μ-loop : tie.MeasureT-loop
 μ-loop word i₀ i = length word - i
