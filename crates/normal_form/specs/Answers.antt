@@ -13,7 +13,7 @@ use Rattle.exact.specs.Meaning.Word.{Letter, bytes, tees, Spelled}
 use Rattle.exact.specs.Meaning.Normal as normal
 use Rattle.exact.specs.Meaning.Limits.{Accepted, Letter as LETTER, Room}
 use Rattle.exact.specs.Meaning.Lent.{over}
-use Rattle.exact.specs.Cases.Letters.{lettersOf, bytes-length}
+use Rattle.exact.specs.Cases.Letters.{lettersOf, bytes-length, Inside, bytes-back, inside-passes}
 use Rattle.exact.specs.Unique.Tails.{tees-append}
 use Rattle.exact.specs.Outcomes.Ladder.{Only}
 use Rattle.clifford.specs.Cliffords.{splitC}
@@ -23,7 +23,7 @@ use Rattle.reading.specs.declared.Reading.{Reading}
 use Rattle.reading.specs.Readings.{State, prefix, prefix-tees, start, run, shape, spelled, normal, normal-of}
 use Rattle.reading.specs.Held.{Holds, Readable, count-is, count-few, bytes-most}
 use Rattle.reading.specs.Steps.{tailOf}
-use Rattle.reading.specs.Letters.{Inside, Reads, bytes-back, none-outside}
+use Rattle.reading.specs.Letters.{Reads}
 use Rattle.writing.specs.declared.Ending.{Ending}
 use Rattle.writing.specs.Put.{Put, put-more}
 use Rattle.writing.specs.Endings.{endWord, endSize, endingOf, Ended, end-length, end-tees, end-whole, textOf, text-less}
@@ -157,4 +157,4 @@ module _ (w items : List ℕ) (x : Read) (l : length w ≤ 4096) (s : Reads w it
     answered-by phase old n new p =
         let st = run start (lettersOf w) in
         answered-with (answers-single phase) w old (textOf phase st) (spelled-answer phase w (reads .0)) n new l
-        (none-outside w (reads .0)) (p .writes st (reads .1))
+        (inside-passes w (reads .0)) (p .writes st (reads .1))

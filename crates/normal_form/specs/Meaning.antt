@@ -3,7 +3,7 @@ use mathlib.Core.List.{List}
 use Prim.Native.Nat.{ℕ}
 use lib.ListN.{length}
 use Rattle.exact.specs.Meaning.Matrix.{Same}
-use Rattle.exact.specs.Meaning.Word.{Letter as Gate, word, tees, bytes, job3, Spelled}
+use Rattle.exact.specs.Meaning.Word.{Letter as Gate, word, tees, bytes, Spelled}
 use Rattle.exact.specs.Meaning.Normal.{NormalOf, PhaseFree}
 use Rattle.exact.specs.Meaning.Limits.{Accepted}
 use Rattle.exact.specs.Meaning.Outcome.{Refusals, none, _then_, Outcome}
@@ -32,7 +32,7 @@ counts v = record { refusal = Accepted; place = 0; bytes = length v; tees = tees
 -- ---- jobs 3 and 5: long, letter, room, or the answer to the word's letters, written
 module _ (Answer : List Gate → List Gate → Type 0) (w old : List ℕ) where
   abbrev pub wordRefusals : Refusals
-  wordRefusals = long w then letter job3 w then room bytes (Spelled Answer w) old then none
+  wordRefusals = long w then letter w then room bytes (Spelled Answer w) old then none
 
   abbrev pub WordOutcome : Written → List ℕ → Type 0
   WordOutcome r new = Outcome (untouched refused old) (Writes bytes counts (Spelled Answer w) old) wordRefusals (lent r new)

@@ -5,7 +5,7 @@ use mathlib.Core.List.{List, [], _∷_}
 use Prim.Native.Nat.{ℕ, _<_, _≤_}
 use native.Mathlib.Omega.{arith}
 use lib.ListN.{length, replicate}
-use Rattle.exact.specs.Meaning.Word.{Letter as Gate, bytes, job3, FirstOutside, Spelled}
+use Rattle.exact.specs.Meaning.Word.{Letter as Gate, bytes, FirstOutside, Spelled}
 use Rattle.exact.specs.Meaning.Limits.{longest, Accepted, Long, Letter}
 use Rattle.exact.specs.Meaning.Outcome.{none, _then_}
 use Rattle.exact.specs.Meaning.Lent.{lent, untouched, Writes}
@@ -22,12 +22,12 @@ module _ (Answer : List Gate → List Gate → Type 0) (w old : List ℕ) (r : W
   pub only-long : longest < length w → WordOutcome Answer w old r new → lent r new ≡ untouched refused old Long 0
   only-long l =
       only-refused (untouched refused old) (Writes bytes counts (Spelled Answer w) old) (long w) one-plain 0 (l, refl) none
-      (letter job3 w then room bytes (Spelled Answer w) old then none) tt (lent r new)
+      (letter w then room bytes (Spelled Answer w) old then none) tt (lent r new)
 
-  pub only-letter : (p : ℕ) → length w ≤ longest → FirstOutside job3 w p → WordOutcome Answer w old r new
+  pub only-letter : (p : ℕ) → length w ≤ longest → FirstOutside w p → WordOutcome Answer w old r new
       → lent r new ≡ untouched refused old Letter p
   only-letter p l o =
-      only-refused (untouched refused old) (Writes bytes counts (Spelled Answer w) old) (letter job3 w) one-letter p o (long w then none)
+      only-refused (untouched refused old) (Writes bytes counts (Spelled Answer w) old) (letter w) one-letter p o (long w then none)
       (room bytes (Spelled Answer w) old then none) ((λ q h. omega (arith, h .0)), tt) (lent r new)
 
 -- ---- the inputs: `i`, 4,097 of them, and `HHi`
@@ -42,7 +42,7 @@ module _ (Answer : List Gate → List Gate → Type 0) (old : List ℕ) (r : Wri
   -- the letter test skipped: `i` is taken
   pub skipped : WordOutcome Answer small old r new → r .refusal ≡ Accepted → ⊥
   skipped o f =
-      let e = handed-same (only-letter Answer small old r new 0 (omega arith) (i-first job3 []) o) in
+      let e = handed-same (only-letter Answer small old r new 0 (omega arith) (i-first []) o) in
       omega (arith, ap (λ (x : Written). x .refusal) e)
 
   -- the letter test before the length test: 4,097 bytes outside are refused as such
@@ -54,5 +54,5 @@ module _ (Answer : List Gate → List Gate → Type 0) (old : List ℕ) (r : Wri
   -- the place forgotten: `HHi` is refused at place 0
   pub misplaced : WordOutcome Answer third old r new → r .place ≡ 0 → ⊥
   misplaced o f =
-      let e = handed-same (only-letter Answer third old r new 2 (omega arith) (i-third job3 tt) o) in
+      let e = handed-same (only-letter Answer third old r new 2 (omega arith) i-third o) in
       omega (arith, ap (λ (x : Written). x .place) e)

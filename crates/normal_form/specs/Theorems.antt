@@ -9,7 +9,7 @@ use lib.Dec.{T, leb, leb→le}
 use lib.ListN.{length, getD}
 use mir.Facts.{and-yes}
 use Rattle.exact.specs.Meaning.Matrix.{Same}
-use Rattle.exact.specs.Meaning.Word.{Letter, I, S, W, T′, word, tees, bytes, job3, All, Spelled}
+use Rattle.exact.specs.Meaning.Word.{Letter, I, S, W, T′, word, tees, bytes, Spelled}
 use Rattle.exact.specs.Meaning.Normal.{Normal, times, lessFinalW}
 use Rattle.exact.specs.Meaning.Limits.{longest, Accepted, Room}
 use Rattle.exact.specs.Meaning.Lent.{Lent, lent, over, untouched, Writes}
@@ -57,26 +57,17 @@ never-adds u old r new o =
         let m : (tees (a .v) ≤ tees (s .letters)) = normal-fewest (s .letters) (s .holds .same) (s .holds .normal) in
         omega (arith, ap (λ (y : Lent Written). y .handed .tees) (a .is), ap tees (bytes-inj (s .letters) u (s .spelled)))
 
--- ---- words of job 3's letters, by a test
-abbrev pub allowed : List Letter → Bool
-allowed [] = true
-allowed (l ∷ u) = job3 l && allowed u
-
-all-by : (u : List Letter) → T (allowed u) → All job3 u
-all-by [] t = tt
-all-by (l ∷ u) t = let s = and-yes (job3 l) (allowed u) t in (s .0, all-by u (s .1))
-
+-- ---- a word that is not too long
 abbrev short : List Letter → Bool
-short u = allowed u && leb (length (bytes u)) longest
+short u = leb (length (bytes u)) longest
 
 -- the answer v to such a word u: what is handed back, and nothing else, where it fits and where it does not
 module _ (Answer : List Letter → List Letter → Type 0) (one : (u : List Letter) → Only (Answer u)) (u v : List Letter) (old : List ℕ)
     (t : T (short u)) (a : Answer u v) where
   by-room : (r : Written) (new : List ℕ) → RoomOutcome (λ x. x ≡ v) old r new → WordOutcome Answer (bytes u) old r new
   by-room r new =
-      let s = and-yes (allowed u) (leb (length (bytes u)) longest) t in
       answered-with one (bytes u) old v (record { letters = u; spelled = refl; holds = a }) r new
-      (leb→le (length (bytes u)) longest (s .1)) (none-outside job3 u (all-by u (s .0)))
+      (leb→le (length (bytes u)) longest t) (none-outside u)
 
   refused-there : length old < length (bytes v) → WordOutcome Answer (bytes u) old (refused Room 0) old
   refused-there l = by-room (refused Room 0) old (no-room v old (refused Room 0) l refl)

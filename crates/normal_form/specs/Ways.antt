@@ -4,7 +4,7 @@ use mathlib.Core.List.{List}
 use Prim.Native.Nat.{ℕ, _<_, _≤_}
 use native.Mathlib.Omega.{arith}
 use lib.ListN.{length}
-use Rattle.exact.specs.Meaning.Word.{Letter as Gate, bytes, job3, FirstOutside, Spelled}
+use Rattle.exact.specs.Meaning.Word.{Letter as Gate, bytes, FirstOutside, Spelled}
 use Rattle.exact.specs.Meaning.Limits.{longest, Long, Letter, Room}
 use Rattle.exact.specs.Meaning.Outcome.{Rung}
 use Rattle.exact.specs.Meaning.Lent.{lent, over, untouched}
@@ -23,7 +23,7 @@ module _ (Answer : List Gate → List Gate → Type 0) (w old : List ℕ) (r : W
   pub too-long : longest < length w → r ≡ refused Long 0 → WordOutcome Answer w old r old
   too-long l e = Rung.given 0 (l, refl) (stays old e)
 
-  pub outside-at : (p : ℕ) → length w ≤ longest → FirstOutside job3 w p → r ≡ refused Letter p → WordOutcome Answer w old r old
+  pub outside-at : (p : ℕ) → length w ≤ longest → FirstOutside w p → r ≡ refused Letter p → WordOutcome Answer w old r old
   outside-at p l o e = Rung.passed (λ q h. omega (arith, h .0)) (Rung.given p o (stays old e))
 
 -- the rungs below those of the word: room, or the answer written
@@ -47,6 +47,6 @@ module _ {Answer : List Gate → List Gate → Type 0} (one : (u : List Gate) �
       written-as bytes counts counts (λ x. x ≡ v) (Spelled Answer w) old refused refused (λ x. x) (λ n p. refl) (λ x. refl)
       (λ x e. subst (Spelled Answer w) (sym e) a) (λ x h. one-spelled Answer one w x v h a) (lent r new)
 
-  pub answered-with : length w ≤ longest → ((p : ℕ) → FirstOutside job3 w p → ⊥) → RoomOutcome (λ x. x ≡ v) old r new
+  pub answered-with : length w ≤ longest → ((p : ℕ) → FirstOutside w p → ⊥) → RoomOutcome (λ x. x ≡ v) old r new
       → WordOutcome Answer w old r new
   answered-with l i o = Rung.passed (λ q h. omega (arith, h .0)) (Rung.passed i (below o))

@@ -15,7 +15,7 @@ use lib.Seq.{length-take-le, take-set-le, take-suc-set, take-take, take-append-s
 use lib.Seq.{getD-set-same, getD-set-other}
 use Rattle.exact.specs.Meaning.Word.{Letter}
 use Rattle.exact.specs.Meaning.Normal as normal
-use Rattle.exact.specs.Cases.Letters.{lettersOf}
+use Rattle.exact.specs.Cases.Letters.{lettersOf, lettersOf-length}
 use Rattle.clifford.specs.declared.Axis.{Axis}
 use Rattle.clifford.specs.declared.Axis.the-variants as Axis
 use Rattle.clifford.specs.declared.Clifford.{Clifford}
@@ -335,10 +335,6 @@ module _ {old : List ℕ} {r : Reading} {l m : Letter} {s : Step} {new : List �
       go (suc (suc (suc (suc j)))) f c p st h = absurd (omega arith)
 
 -- ---- a word
-lettersOf-length : (u : List ℕ) → length (lettersOf u) ≡ length u
-lettersOf-length [] = refl
-lettersOf-length (b ∷ u) = ap suc (lettersOf-length u)
-
 pub count-few : (items : List ℕ) (r : Reading) (w : List ℕ) (i : ℕ)
     → Holds items r (run start (lettersOf (take i w)))
     → i ≤ length w

@@ -1,27 +1,23 @@
 -- The reader's turns over a word: what is known at a place, and what one letter or two more make of it. Assumes nothing.
 use mathlib.Core.Path.{_≡_, refl, sym, _∙_, ap, ap₂, subst}
-use mathlib.Core.List.{List, [], _∷_, _++_}
+use mathlib.Core.List.{List, [], _∷_}
 use Prim.Native.Nat.{ℕ, _+_, _≤_, _<_}
 use native.Mathlib.Numerals.{add-one}
 use native.Mathlib.Omega.{arith}
 use lib.ListN.{length, take, getD}
 use lib.Seq.{take-suc, take-all}
-use Rattle.exact.specs.Meaning.Word.{I, job3, FirstOutside}
-use Rattle.exact.specs.Cases.Letters.{letterOf, lettersOf}
+use Rattle.exact.specs.Meaning.Word.{I, FirstOutside}
+use Rattle.exact.specs.Cases.Letters.{letterOf, lettersOf, lettersOf-append, Inside, inside-none, inside-more}
 use Rattle.reading.specs.declared.Read.the-variants as Read
 use Rattle.reading.specs.declared.Reading.{Reading}
 use Rattle.reading.specs.Held.{Blank, Holds, Readable, Steps, pair, count-few}
-use Rattle.reading.specs.Letters.{Inside, Reads, inside-none, inside-more, numbered-in, numbered-out}
+use Rattle.reading.specs.Letters.{Reads, numbered-in, numbered-at, numbered-out}
 use Rattle.reading.specs.Readings.{State, start, read, run, run-append}
-use Rattle.reading.specs.Steps.{letterNumber, letterAt, letterAt-is}
+use Rattle.reading.specs.Steps.{letterAt, numberOf}
 
 -- what the letters before a place are read as
 abbrev readTo : List ℕ → ℕ → State
 readTo w i = run start (lettersOf (take i w))
-
-lettersOf-append : (u v : List ℕ) → lettersOf (u ++ v) ≡ lettersOf u ++ lettersOf v
-lettersOf-append [] v = refl
-lettersOf-append (b ∷ u) v = ap (λ x. letterOf b ∷ x) (lettersOf-append u v)
 
 -- one letter more, and two
 run-more : (w : List ℕ) (i : ℕ) → i < length w → readTo w (i + 1) ≡ read (letterOf (getD w i 0)) (readTo w i)
@@ -65,10 +61,7 @@ upto-none w items b = record { within = omega arith; same = refl; inside = insid
 
 -- n is the number of the byte at place i
 abbrev pub Numbered : List ℕ → ℕ → ℕ → Type 0
-Numbered w i n = n ≡ letterNumber (letterOf (getD w i 0))
-
-numbered : (w : List ℕ) (i n : ℕ) → Numbered w i n → letterAt n ≡ letterOf (getD w i 0)
-numbered w i n e = ap letterAt e ∙ letterAt-is (letterOf (getD w i 0))
+Numbered w i n = n ≡ numberOf (getD w i 0)
 
 module _ {w old items : List ℕ} {r : Reading} {i : ℕ} (u : Upto w old items r i) where
   pub readable : Readable items r
@@ -77,20 +70,20 @@ module _ {w old items : List ℕ} {r : Reading} {i : ℕ} (u : Upto w old items 
   pub room : i < length w → length w ≤ 4096 → length w ≤ length old → (r .count < length items) × (r .count < 4096)
   room l m k = let few = count-few items r w i (u .held) (u .within) in (omega arith, omega arith)
 
-  one-inside : {n : ℕ} → Numbered w i n → n ≤ 4 → Inside w (i + 1)
+  one-inside : {n : ℕ} → Numbered w i n → n ≤ 5 → Inside w (i + 1)
   one-inside {n} e h = inside-more w i (u .inside) (numbered-in (getD w i 0) n e h)
 
   -- a byte that is no letter
-  pub first-outside : {n : ℕ} → i < length w → Numbered w i n → 4 < n → FirstOutside job3 w i
+  pub first-outside : {n : ℕ} → i < length w → Numbered w i n → 5 < n → FirstOutside w i
   first-outside {n} l e h = record { there = l; outside = numbered-out (getD w i 0) n e h; before = u .inside }
 
   pub second-outside : {n m : ℕ}
       → i + 1 < length w
       → Numbered w i n
-      → n ≤ 4
+      → n ≤ 5
       → Numbered w (i + 1) m
-      → 4 < m
-      → FirstOutside job3 w (i + 1)
+      → 5 < m
+      → FirstOutside w (i + 1)
   second-outside {n} {m} l e h f k =
       record { there = l; outside = numbered-out (getD w (i + 1) 0) m f k; before = one-inside e h }
 
@@ -98,9 +91,9 @@ module _ {w old items : List ℕ} {r : Reading} {i : ℕ} (u : Upto w old items 
   pub upto-two : {n m : ℕ} {new : List ℕ} {s : Reading}
       → i + 1 < length w
       → Numbered w i n
-      → n ≤ 4
+      → n ≤ 5
       → Numbered w (i + 1) m
-      → m ≤ 4
+      → m ≤ 5
       → length new ≡ length items
       → Steps (pair (letterAt n) (letterAt m)) items r new s
       → Upto w old new s (i + 2)
@@ -111,7 +104,7 @@ module _ {w old items : List ℕ} {r : Reading} {i : ℕ} (u : Upto w old items 
         inside = λ j a. inside-more w (i + 1) (one-inside e h) (numbered-in (getD w (i + 1) 0) m f k) j (omega arith);
         held =
             subst (Holds new s)
-            (ap₂ (λ x y. pair x y (readTo w i)) (numbered w i n e) (numbered w (i + 1) m f) ∙ sym (run-pair w i l))
+            (ap₂ (λ x y. pair x y (readTo w i)) (numbered-at (getD w i 0) n e h) (numbered-at (getD w (i + 1) 0) m f k) ∙ sym (run-pair w i l))
             (p .step (readTo w i) (u .held));
       }
 
@@ -120,7 +113,7 @@ module _ {w old items : List ℕ} {r : Reading} {i : ℕ} (u : Upto w old items 
       → i < length w
       → length w ≤ i + 1
       → Numbered w i n
-      → n ≤ 4
+      → n ≤ 5
       → Steps (pair (letterAt n) I) items r new s
       → Reads w new (Read.Word s)
   read-last {n} {new} {s} l m e h p =
@@ -128,7 +121,7 @@ module _ {w old items : List ℕ} {r : Reading} {i : ℕ} (u : Upto w old items 
     where
       held : Holds new s (readTo w (i + 1))
       held =
-          subst (Holds new s) (ap (λ x. read x (readTo w i)) (numbered w i n e) ∙ sym (run-more w i l)) (p .step (readTo w i) (u .held))
+          subst (Holds new s) (ap (λ x. read x (readTo w i)) (numbered-at (getD w i 0) n e h) ∙ sym (run-more w i l)) (p .step (readTo w i) (u .held))
 
   pub read-all : length w ≤ i → Reads w items (Read.Word r)
   read-all l = (λ j a. u .inside j (omega arith), rw (take-all i w l) at (u .held))

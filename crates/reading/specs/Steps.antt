@@ -5,14 +5,14 @@ use mathlib.Core.Bool.{Bool, true, false, cond, _&&_}
 use mathlib.Core.List.{List}
 use Prim.Native.Nat.{ℕ, zero, suc, _+_, _-_, _*_, _/_, _%_, _<_, _≤_}
 use native.Mathlib.Omega.{arith}
-use borrow.Author.Tests.{ne-eqb}
+use borrow.Author.Tests.{eqb-true}
 use lib.Dec.{T, ltb, ltb→lt, eqb, eqb→eq}
 use lib.ListN.{getD, length}
 use mir.Facts.{and-yes}
 use mir.Syntax.{w8}
 use mir.Val.{Fits as FitsIn}
-use Rattle.exact.specs.Meaning.Word.{Letter, I, H, S, X, W, T′, job3}
-use Rattle.exact.specs.Cases.Letters.{letterOf}
+use Rattle.exact.specs.Meaning.Word.{Letter, I, H, S, X, W, T′, byte, IsLetter}
+use Rattle.exact.specs.Cases.Letters.{letterOf, is-letter}
 use Rattle.clifford.specs.declared.Axis.{Axis}
 use Rattle.clifford.specs.declared.Axis.the-variants as Axis
 use Rattle.clifford.specs.declared.Clifford.{Clifford}
@@ -46,22 +46,17 @@ letterAt-is W = refl
 letterAt-is T′ = refl
 letterAt-is I = refl
 
--- only the five letters of job 3 have a number below 5
-pub number-known : (l : Letter) → letterNumber l ≤ 4 → job3 l ≡ true
-number-known H h = refl
-number-known S h = refl
-number-known X h = refl
-number-known W h = refl
-number-known T′ h = refl
-number-known I h = absurd (omega arith)
+pub number-few : (l : Letter) → letterNumber l ≤ 5
+number-few H = omega arith
+number-few S = omega arith
+number-few X = omega arith
+number-few W = omega arith
+number-few T′ = omega arith
+number-few I = omega arith
 
-pub number-unknown : (l : Letter) → 4 < letterNumber l → job3 l ≡ false
-number-unknown H h = absurd (omega arith)
-number-unknown S h = absurd (omega arith)
-number-unknown X h = absurd (omega arith)
-number-unknown W h = absurd (omega arith)
-number-unknown T′ h = absurd (omega arith)
-number-unknown I h = refl
+-- a byte's number: that of its letter, and 6 where it is none
+abbrev pub numberOf : ℕ → ℕ
+numberOf b = cond (eqb (byte (letterOf b)) b) (letterNumber (letterOf b)) 6
 
 -- ---- a Clifford by its code and its phase
 abbrev pub cliffordAt : ℕ → ℕ → Clifford
@@ -145,7 +140,7 @@ abbrev axesTest : List ℕ → Bool
 axesTest rows = all 24 (λ g. all 8 (axisTest rows g))
 
 abbrev letterTest : List ℕ → ℕ → Bool
-letterTest rows k = eqb (getD rows (672 + k) 0) (letterNumber (letterOf (k + 72)))
+letterTest rows k = eqb (getD rows (672 + k) 0) (numberOf (k + 72))
 
 abbrev lettersTest : List ℕ → Bool
 lettersTest rows = all 17 (letterTest rows)
@@ -301,20 +296,33 @@ split-at rows right t h axis rest e f = λ i. record { axis = axes i; rest = res
     rests = ap tailOf f ∙ axis-row rows right t h
 
 -- ---- the number of a byte
-pub number-in : (rows : List ℕ) → Right rows → (b : ℕ) → 72 ≤ b → b ≤ 88 → getD rows (672 + (b - 72)) 0 ≡ letterNumber (letterOf b)
+pub number-in : (rows : List ℕ) → Right rows → (b : ℕ) → 72 ≤ b → b ≤ 88 → getD rows (672 + (b - 72)) 0 ≡ numberOf b
 number-in rows right b l h =
-    eqb→eq (getD rows (672 + (b - 72)) 0) (letterNumber (letterOf (b - 72 + 72)))
+    eqb→eq (getD rows (672 + (b - 72)) 0) (numberOf (b - 72 + 72))
     (at 17 (letterTest rows) (right .letters) (b - 72) (omega arith))
-    ∙ ap (λ n. letterNumber (letterOf n)) (back b l)
+    ∙ ap numberOf (back b l)
   where
     back : (b : ℕ) → 72 ≤ b → b - 72 + 72 ≡ b
     back b l = omega arith
 
-number-out : (b : ℕ) → (b ≡ 72 → ⊥) → (b ≡ 83 → ⊥) → (b ≡ 88 → ⊥) → (b ≡ 87 → ⊥) → (b ≡ 84 → ⊥) → 5 ≡ letterNumber (letterOf b)
-number-out b h s x w t = rw (ne-eqb b 72 h, ne-eqb b 83 s, ne-eqb b 88 x, ne-eqb b 87 w, ne-eqb b 84 t)
+-- no letter's byte is below H's or above X's
+number-out : (b : ℕ) → (IsLetter b → ⊥) → 6 ≡ numberOf b
+number-out b f = go (eqb (byte (letterOf b)) b) refl
+  where
+    go : (t : Bool) → eqb (byte (letterOf b)) b ≡ t → 6 ≡ cond t (letterNumber (letterOf b)) 6
+    go true e = absurd (f (is-letter (eqb-true (byte (letterOf b)) b e)))
+    go false e = refl
 
-pub number-low : (b : ℕ) → b < 72 → 5 ≡ letterNumber (letterOf b)
-number-low b l = number-out b (λ e. omega arith) (λ e. omega arith) (λ e. omega arith) (λ e. omega arith) (λ e. omega arith)
+byte-within : (l : Letter) → (72 ≤ byte l) × (byte l ≤ 88)
+byte-within I = (omega arith, omega arith)
+byte-within H = (omega arith, omega arith)
+byte-within S = (omega arith, omega arith)
+byte-within X = (omega arith, omega arith)
+byte-within W = (omega arith, omega arith)
+byte-within T′ = (omega arith, omega arith)
 
-pub number-high : (b : ℕ) → 88 < b → 5 ≡ letterNumber (letterOf b)
-number-high b l = number-out b (λ e. omega arith) (λ e. omega arith) (λ e. omega arith) (λ e. omega arith) (λ e. omega arith)
+pub number-low : (b : ℕ) → b < 72 → 6 ≡ numberOf b
+number-low b h = number-out b (λ l. omega (arith, l .is, byte-within (l .letter-there) .0))
+
+pub number-high : (b : ℕ) → 88 < b → 6 ≡ numberOf b
+number-high b h = number-out b (λ l. omega (arith, l .is, byte-within (l .letter-there) .1))

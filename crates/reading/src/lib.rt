@@ -7,7 +7,7 @@ ghost use Rattle.reading.specs.Steps.{letterAt, Right, Fits, tailOf};
 ghost use Rattle.reading.specs.Syllables.{syllableOf};
 ghost use Rattle.reading.specs.Held.{Blank, Readable, Steps, Pushed, Popped, cancelled, pair};
 ghost use Rattle.reading.specs.Letters.{Reads};
-use crate::steps::NOTHING;
+use crate::steps::IDENTITY;
 use crate::steps::Tail;
 use crate::steps::number;
 
@@ -125,11 +125,11 @@ pub fn read_word(table: &[u8], items: &mut [u8], word: &[u8]) -> Read
     let mut i: usize = 0;
     while i + 1 < word.len() {
         let first = number(table, word[i]);
-        if first > 4 {
+        if first > IDENTITY {
             return Read::Outside(i);
         }
         let second = number(table, word[i + 1]);
-        if second > 4 {
+        if second > IDENTITY {
             return Read::Outside(i + 1);
         }
         r = append_gates(table, items, r, first, second);
@@ -137,10 +137,10 @@ pub fn read_word(table: &[u8], items: &mut [u8], word: &[u8]) -> Read
     }
     if i < word.len() {
         let first = number(table, word[i]);
-        if first > 4 {
+        if first > IDENTITY {
             return Read::Outside(i);
         }
-        r = append_gates(table, items, r, first, NOTHING);
+        r = append_gates(table, items, r, first, IDENTITY);
     }
     Read::Word(r)
 }

@@ -1,9 +1,8 @@
 // What two letters do to a reading, by look-up: the kind of change to the syllables, and the Clifford behind them.
 ghost use mathlib.Core.Path.{_≡_};
 ghost use Prim.Native.Nat.{_<_};
-ghost use Rattle.exact.specs.Cases.Letters.{letterOf};
 ghost use Rattle.clifford.specs.Cliffords.{splitC};
-ghost use Rattle.reading.specs.Steps.{letterNumber, letterAt, Right, Fits, moved, Stepped, Gained, axisAt, tailOf};
+ghost use Rattle.reading.specs.Steps.{numberOf, letterAt, Right, Fits, moved, Stepped, Gained, axisAt, tailOf};
 use clifford::Axis;
 use clifford::Clifford;
 use clifford::Coset;
@@ -21,8 +20,11 @@ pub(crate) struct Step {
     pub tail: Tail,
 }
 
-// H, S, X, W and T are 0 to 4 in the table, and 5 is any other byte, or no letter.
-pub(crate) const NOTHING: u8 = 5;
+// H, S, X, W and T are 0 to 4 in the table, and I is 5, as is a second letter that is not there.
+pub(crate) const IDENTITY: u8 = 5;
+
+// A byte that is no letter.
+const OUTSIDE: u8 = 6;
 
 // Where the parts of the table begin, behind its rows.
 const KINDS: usize = 408;
@@ -37,13 +39,13 @@ const LETTERS: usize = 672;
 
 pub(crate) fn number(table: &[u8], b: u8) -> u8
     requires { ⌜ Right (now table) ⌝ }
-    ensures { λ r. ⌜ r ≡ letterNumber (letterOf b) ⌝ }
+    ensures { λ r. ⌜ r ≡ numberOf b ⌝ }
 {
     if b < 72 {
-        return NOTHING;
+        return OUTSIDE;
     }
     if b > 88 {
-        return NOTHING;
+        return OUTSIDE;
     }
     table[LETTERS + (b - 72) as usize]
 }
