@@ -1,4 +1,4 @@
--- Demand 3, over the promises of the jobs and over those of the exports. For a word of H, S, X, W, T of at most 4,096 letters each of whose
+-- Demand 3, over the promises of the jobs and over those of the exports. For a word of I, H, S, X, W, T of at most 4,096 letters each of whose
 -- endings has least exponent at most 60, normalising it and synthesising its multiplied-out matrix, each given 376 bytes or more, are accepted
 -- and write the same bytes, a normal word with the word's matrix. Two such words with one matrix have one outcome, whatever the lent bytes held
 -- and however many there were. The words are in Meaning.Demand3 and Meaning.Exports, the reasons in Jobs and Calls. Assumes nothing.

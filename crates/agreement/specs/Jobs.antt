@@ -8,7 +8,7 @@ use lib.IntN.{pos}
 use lib.ListN.{length, take, drop}
 use lib.Seq.{take-at}
 use Rattle.exact.specs.Meaning.Matrix.{Matrix, Same}
-use Rattle.exact.specs.Meaning.Word.{Letter, word, tees, bytes, job2, job3, Spelled}
+use Rattle.exact.specs.Meaning.Word.{Letter, word, tees, bytes, Spelled}
 use Rattle.exact.specs.Meaning.Normal.{Normal, NormalOf}
 use Rattle.exact.specs.Meaning.Triple.{entries, Unitary}
 use Rattle.exact.specs.Meaning.Endings.{Shallow, DeepAt}
@@ -16,7 +16,7 @@ use Rattle.exact.specs.Meaning.Limits.{longest, deepest, enough, Accepted}
 use Rattle.exact.specs.Meaning.Outcome.{none, _then_, _also_}
 use Rattle.exact.specs.Meaning.Lent.{Lent, lent, over, untouched, Writes}
 use Rattle.exact.specs.Meaning.Refusals.{long, letter, deep, checks, TooMany, room}
-use Rattle.exact.specs.Cases.Letters.{bytes-inj, bytes-length, none-outside, all-job2}
+use Rattle.exact.specs.Cases.Letters.{bytes-inj, bytes-length, none-outside}
 use Rattle.exact.specs.Matrices.Same.{Same-sym, Same-trans, Same-of}
 use Rattle.exact.specs.Matrices.Least.{least-unique, least-same}
 use Rattle.exact.specs.Matrices.Sizes.{z-sized, w-sized}
@@ -68,7 +68,7 @@ module _ (u : List Letter) (w : Within u) where
       → Writes bytes Job3.counts (Spelled Normalises (bytes u)) old (lent r new)
   job-3 old r new l o =
       answered (untouched Job3.refused old) (Writes bytes Job3.counts (Spelled Normalises (bytes u)) old) (wordRefusals Normalises (bytes u) old)
-      (few-bytes, (none-outside job3 u (w .plain), (has-room, tt))) (lent r new) o
+      (few-bytes, (none-outside u, (has-room, tt))) (lent r new) o
     where
       has-room : (p : ℕ) → TooMany bytes (Spelled Normalises (bytes u)) old × (p ≡ 0) → ⊥
       has-room p h =
@@ -79,8 +79,8 @@ module _ (u : List Letter) (w : Within u) where
   job-2 : (r : FromGates) → MatrixOutcome (bytes u) r → Multiplies u r
   job-2 r o =
       of-word
-      (answered stopped (Spelled Multiplies (bytes u)) (long (bytes u) then letter job2 (bytes u) then deep (bytes u) then none)
-      (few-bytes, (none-outside job2 u (all-job2 u), (not-deep, tt))) r o)
+      (answered stopped (Spelled Multiplies (bytes u)) (long (bytes u) then letter (bytes u) then deep (bytes u) then none)
+      (few-bytes, (none-outside u, (not-deep, tt))) r o)
     where
       not-deep : (p : ℕ) → Spelled DeepAt (bytes u) p → ⊥
       not-deep p s = let d = of-word s in not-both (w .shallow .at p (omega (arith, d .there))) (d .deep)

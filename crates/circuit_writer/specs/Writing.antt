@@ -5,20 +5,17 @@ use mathlib.Core.List.{List}
 use Prim.Native.Nat.{ℕ, _+_, _-_, _<_, _≤_}
 use lib.Dec.{eqb, ltb}
 use lib.ListN.{length, getD}
-use Rattle.exact.specs.Meaning.Word.{Letter, W, byte, bytes, job2, In}
+use Rattle.exact.specs.Meaning.Word.{Letter, W, byte, bytes, IsLetter}
 use Rattle.exact.specs.Meaning.Limits as Limits
 use Rattle.exact.specs.Outcomes.Enums.{Says}
 use Rattle.exact.specs.Meaning.Refusals as Refusals
-use Rattle.exact.specs.Cases.Letters.{letterOf, lettersOf}
+use Rattle.exact.specs.Cases.Letters.{lettersOf}
 use Rattle.exact.specs.Outcomes.Lent as Outcomes
 use Rattle.circuit_writer.specs.declared.Measured as Measured
 use Rattle.circuit_writer.specs.declared.Measured.the-variants.{Outside, Word}
 use Rattle.circuit.specs.Meaning.{lines, statementOf, circuit}
 
 -- ---- bytes that are letters
-pub record IsLetter (b : ℕ) : Type 0 where
-  pub is : byte (letterOf b) ≡ b
-
 pub record Spells (w : List ℕ) : Type 0 where
   pub is : bytes (lettersOf w) ≡ w
 
@@ -32,7 +29,7 @@ size u = length (lines (circuit u))
 -- by a letter's byte; 255 is no letter's
 pub data SizeIs (b r : ℕ) : Type 0 where
   letter : (l : Letter) → byte l ≡ b → r ≡ sizeOf l → SizeIs b r
-  no-letter : (In job2 b → ⊥) → r ≡ 255 → SizeIs b r
+  no-letter : (IsLetter b → ⊥) → r ≡ 255 → SizeIs b r
 
 -- ---- a word measured
 pub record Measures (w : List ℕ) (n : ℕ) : Type 0 where
@@ -58,4 +55,4 @@ WordIs w (Outside p) = ⊥
 WordIs w (Word n p) = Measures w n × PhaseIs w p
 
 abbrev pub MeasureIs : List ℕ → Measured.Measured → Type 0
-MeasureIs w r = Says (refusalOf r) (Refusals.letter job2 w) (WordIs w r)
+MeasureIs w r = Says (refusalOf r) (Refusals.letter w) (WordIs w r)

@@ -11,13 +11,13 @@ use mir.Val.{Fits}
 use lib.Dec.{eqb, ltb}
 use lib.ListN.{length, take, drop, set, getD, length-append, List·getD-append}
 use lib.Seq.{length-take-le, take-suc, take-all, take-length, drop-length, drop-cons, getD-take, getD-append-seam}
-use Rattle.exact.specs.Meaning.Word.{Letter, I, H, S, X, W, T′, byte, bytes, job2, In, FirstOutside}
+use Rattle.exact.specs.Meaning.Word.{Letter, I, H, S, X, W, T′, byte, bytes, IsLetter, FirstOutside}
 use Rattle.exact.specs.Meaning.Text.{ascii}
-use Rattle.exact.specs.Cases.Letters.{letterOf, letterOf-byte, lettersOf}
+use Rattle.exact.specs.Cases.Letters.{letterOf, letterOf-byte, lettersOf, lettersOf-append, lettersOf-length, letter-back, is-letter}
 use Rattle.lent.specs.Written.{Written as Puts, written-both, written-byte, written-length}
 use Rattle.circuit.specs.Meaning.{lines, statementOf, circuit}
 use Rattle.circuit.specs.Lines.{lines-append, cons-head, cons-tail, bytes-append}
-use Rattle.circuit_writer.specs.Writing.{IsLetter, Spells, sizeOf, size, SizeIs, letter, no-letter, Measures, PhaseIs, pastPhase}
+use Rattle.circuit_writer.specs.Writing.{Spells, sizeOf, size, SizeIs, letter, no-letter, Measures, PhaseIs, pastPhase}
 
 -- ---- the size of a line
 pub size-H : {b : ℕ} → b ≡ 72 → SizeIs b 8
@@ -97,7 +97,7 @@ module _ {b : ℕ} (l : IsLetter b) where
   byte-most T′ = omega arith
 
   pub gate-fits : Fits w8 (b + 32)
-  gate-fits = record { fits = omega (arith, l .is, byte-most (letterOf b)) }
+  gate-fits = record { fits = omega (arith, letter-back l, byte-most (letterOf b)) }
 
   module _ (i : b ≡ 73 → ⊥) (w : b ≡ 87 → ⊥) where
     by-letter : (x : Letter) → byte x ≡ b → lines (statementOf x) ≡ (byte x + 32) ∷ ascii " q[0];\n"
@@ -109,7 +109,7 @@ module _ {b : ℕ} (l : IsLetter b) where
     by-letter T′ e = refl
 
     gate-line : lines (statementOf (letterOf b)) ≡ (b + 32) ∷ ascii " q[0];\n"
-    gate-line = by-letter (letterOf b) (l .is) ∙ ap (λ x. (x + 32) ∷ ascii " q[0];\n") (l .is)
+    gate-line = by-letter (letterOf b) (letter-back l) ∙ ap (λ x. (x + 32) ∷ ascii " q[0];\n") (letter-back l)
 
     pub room-gate : (at n : ℕ) → at + sizeOf (letterOf b) ≤ n → at + 8 ≤ n
     room-gate at n h = omega (arith, ap length gate-line)
@@ -119,10 +119,6 @@ module _ {b : ℕ} (l : IsLetter b) where
     line-gate {o} {at} {m} {j} p = subst (λ t. Puts o at t m j) (sym gate-line) p
 
 -- ---- letters and their lines, one behind the others
-lettersOf-append : (v w : List ℕ) → lettersOf (v ++ w) ≡ lettersOf v ++ lettersOf w
-lettersOf-append [] w = refl
-lettersOf-append (b ∷ v) w = ap (λ x. letterOf b ∷ x) (lettersOf-append v w)
-
 pub size-cons : (l : Letter) (u : List Letter) → size (l ∷ u) ≡ size u + sizeOf l
 size-cons l u = ap length (lines-append (circuit u) (statementOf l)) ∙ length-append (lines (circuit u)) (lines (statementOf l))
 
@@ -153,7 +149,7 @@ module _ (v : List ℕ) (b : ℕ) where
         is =
             ap bytes (lettersOf-append v (b ∷ []))
             ∙ bytes-append (lettersOf v) (letterOf b ∷ [])
-            ∙ ap₂ (λ x y. x ++ (y ∷ [])) (s .is) (l .is);
+            ∙ ap₂ (λ x y. x ++ (y ∷ [])) (s .is) (letter-back l);
       }
 
   measures-more : (n m : ℕ) → Measures v n → IsLetter b → m ≡ sizeOf (letterOf b) → Measures (v ++ (b ∷ [])) (n + m)
@@ -208,17 +204,10 @@ module _ (v : List ℕ) (b : ℕ) where
               eqb-false b 87 f (sym (last i (omega (arith, h .upto, ltb-false p (length v) e))) ∙ g)
 
 -- ---- letters of bytes that spell
-pub lettersOf-length : (w : List ℕ) → length (lettersOf w) ≡ length w
-lettersOf-length [] = refl
-lettersOf-length (b ∷ w) = ap suc (lettersOf-length w)
-
 pub spells-at : (w : List ℕ) → Spells w → (i : ℕ) → i < length w → IsLetter (getD w i 0)
 spells-at [] s i l = absurd (omega arith)
-spells-at (b ∷ w) s zero l = record { is = cons-head (s .is) }
+spells-at (b ∷ w) s zero l = is-letter (cons-head (s .is))
 spells-at (b ∷ w) s (suc i) l = spells-at w (record { is = cons-tail (s .is) }) i (omega arith)
-
-letter-in : {b : ℕ} → IsLetter b → In job2 b
-letter-in {b} l = record { letter-there = letterOf b; allowed = tt; is = l .is }
 
 no-size : (l : Letter) → sizeOf l ≡ 255 → ⊥
 no-size l e = omega (arith, sizeOf-most l)
@@ -253,21 +242,21 @@ module _ {w : List ℕ} {n p i : ℕ} (h : Measuring w n p i) where
   pub measuring-phase : p ≤ i
   measuring-phase = omega (arith, h .phase-is .upto, length-take-le i w (h .upto))
 
-  pub outside-at : {m : ℕ} → i < length w → SizeIs (getD w i 0) m → m ≡ 255 → FirstOutside job2 w i
+  pub outside-at : {m : ℕ} → i < length w → SizeIs (getD w i 0) m → m ≡ 255 → FirstOutside w i
   outside-at l (letter x e f) g = absurd (no-size x (sym f ∙ g))
   outside-at l (no-letter o f) g = record { there = l; outside = o; before = before }
     where
-      before : (j : ℕ) → j < i → In job2 (getD w j 0)
+      before : (j : ℕ) → j < i → IsLetter (getD w j 0)
       before j k =
-          subst (In job2) (getD-take i w j 0 k)
-          (letter-in (spells-at (take i w) (h .measures .spells) j (omega (arith, length-take-le i w (h .upto)))))
+          subst IsLetter (getD-take i w j 0 k)
+          (spells-at (take i w) (h .measures .spells) j (omega (arith, length-take-le i w (h .upto))))
 
   pub measuring-more : {m q : ℕ} → i < length w → SizeIs (getD w i 0) m → (m ≡ 255 → ⊥) → q ≡ pastPhase p i (getD w i 0)
       → Measuring w (n + m) q (i + 1)
   measuring-more {m} {q} l s o e =
       record {
         upto = omega arith;
-        measures = subst (λ v. Measures v (n + m)) one-more (measures-more (take i w) (getD w i 0) n m (h .measures) (is-letter s) (is-size s));
+        measures = subst (λ v. Measures v (n + m)) one-more (measures-more (take i w) (getD w i 0) n m (h .measures) (sized-letter s) (is-size s));
         phase-is =
             subst (λ v. PhaseIs v q) one-more
             (subst (PhaseIs (take i w ++ (getD w i 0 ∷ []))) (sym (e ∙ ap (λ k. pastPhase p k (getD w i 0)) (sym long)))
@@ -280,9 +269,9 @@ module _ {w : List ℕ} {n p i : ℕ} (h : Measuring w n p i) where
       one-more : take i w ++ (getD w i 0 ∷ []) ≡ take (i + 1) w
       one-more = sym (ap (λ k. take k w) (add-one i) ∙ take-suc w i 0 l)
 
-      is-letter : SizeIs (getD w i 0) m → IsLetter (getD w i 0)
-      is-letter (letter x f g) = record { is = ap (λ b. byte (letterOf b)) (sym f) ∙ ap byte (letterOf-byte x) ∙ f }
-      is-letter (no-letter z g) = absurd (o g)
+      sized-letter : SizeIs (getD w i 0) m → IsLetter (getD w i 0)
+      sized-letter (letter x f g) = record { letter-there = x; is = f }
+      sized-letter (no-letter z g) = absurd (o g)
 
       is-size : SizeIs (getD w i 0) m → m ≡ sizeOf (letterOf (getD w i 0))
       is-size (letter x f g) = g ∙ ap sizeOf (sym (letterOf-byte x) ∙ ap letterOf f)

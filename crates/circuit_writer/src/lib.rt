@@ -4,10 +4,11 @@ ghost use mathlib.Core.List.{_∷_};
 ghost use Prim.Native.Nat.{_+_, _≤_, _<_};
 ghost use lib.ListN.{length};
 ghost use Rattle.exact.specs.Meaning.Text.{ascii};
+ghost use Rattle.exact.specs.Meaning.Word.{IsLetter};
 ghost use Rattle.exact.specs.Cases.Letters.{letterOf, lettersOf};
 ghost use Rattle.lent.specs.Written.{Written as Puts};
 ghost use Rattle.circuit.specs.Meaning.{statementOf, circuit, lines};
-ghost use Rattle.circuit_writer.specs.Writing.{IsLetter, Spells, SizeIs, MeasureIs, pastPhase, sizeOf};
+ghost use Rattle.circuit_writer.specs.Writing.{Spells, SizeIs, MeasureIs, pastPhase, sizeOf};
 
 // No letter: more than any line has.
 const NONE: usize = 255;

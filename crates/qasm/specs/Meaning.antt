@@ -4,7 +4,7 @@ use mathlib.Core.Bool.{Bool, true, false}
 use mathlib.Core.List.{List}
 use Prim.Native.Nat.{ℕ}
 use lib.ListN.{length}
-use Rattle.exact.specs.Meaning.Word.{Letter, bytes, job2, Spelled}
+use Rattle.exact.specs.Meaning.Word.{Letter, bytes, Spelled}
 use Rattle.exact.specs.Meaning.Limits.{Accepted}
 use Rattle.exact.specs.Meaning.Outcome.{Refusal, Refusals, none, _then_, Outcome}
 use Rattle.exact.specs.Meaning.Lent.{lent, untouched, Writes}
@@ -35,7 +35,7 @@ unless false f fs = f then fs
 
 module _ (e : Edition) (w old : List ℕ) where
   abbrev pub writeRefusals : Refusals
-  writeRefusals = long w then letter job2 w then unless (row e .has-phase) (phase w) (room (text e) (Spelled Circuits w) old then none)
+  writeRefusals = long w then letter w then unless (row e .has-phase) (phase w) (room (text e) (Spelled Circuits w) old then none)
 
   abbrev pub WriteOutcome : Written → List ℕ → Type 0
   WriteOutcome r new =

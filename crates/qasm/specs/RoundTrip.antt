@@ -2,14 +2,14 @@
 -- matrix. Assumes nothing.
 use mathlib.Core.Path.{_≡_, refl, sym, _∙_, ap, ap₂, subst}
 use mathlib.Core.Bool.{true, false}
-use mathlib.Core.List.{List, [], _∷_, _++_}
+use mathlib.Core.List.{List, [], _∷_}
 use Prim.Native.Nat.{ℕ, zero, suc, _<_, _≤_}
 use native.Mathlib.Omega.{arith}
 use lib.Dec.{T}
 use lib.ListN.{length, take, drop, getD}
 use lib.Seq.{take-append-seam}
 use Rattle.exact.specs.Meaning.Matrix.{Same}
-use Rattle.exact.specs.Meaning.Word.{Letter, I, H, S, X, W, T′, word, byte, bytes, First, Spelled, job3, All}
+use Rattle.exact.specs.Meaning.Word.{Letter, I, H, S, X, W, T′, word, byte, bytes, First, Spelled}
 use Rattle.exact.specs.Meaning.Normal.{NormalOf}
 use Rattle.exact.specs.Meaning.Limits.{longest}
 use Rattle.exact.specs.Meaning.Lent.{lent, over, untouched, Writes}
@@ -18,7 +18,7 @@ use Rattle.exact.specs.Cases.Letters.{bytes-length, bytes-inj}
 use Rattle.exact.specs.Outcomes.Ladder.{Passed, answered}
 use Rattle.exact.specs.Outcomes.Lent.{handed-same, bytes-same}
 use Rattle.qasm.specs.declared.Written.{Written}
-use Rattle.circuit.specs.Meaning.{Edition, two, three, row, Statement, h′, s′, t′, x′, allowed, AllAllowed, readAs, text, Right, letters, circuit}
+use Rattle.circuit.specs.Meaning.{Edition, two, three, row, Statement, h′, s′, t′, x′, allowed, AllAllowed, text, Right, letters, circuit}
 use Rattle.circuit.specs.Meaning.{lessI, matrix, Reads}
 use Rattle.qasm.specs.Meaning.{refused, accepted, Circuits, writeRefusals, WriteOutcome, readRefusals, ReadOutcome}
 use Rattle.circuit.specs.Lines.{allowed-append, each, computed, one-reading}
@@ -125,23 +125,6 @@ module _ (e : Edition) (u : List Letter) (old : List ℕ) (h : Passed (writeRefu
     where
       not-long : longest < length (bytes u) → ⊥
       not-long m = h .0 0 (m, refl)
-
--- ---- the letters that are read are letters of job 3
-job3-append : (u v : List Letter) → All job3 u → All job3 v → All job3 (u ++ v)
-job3-append [] v h k = k
-job3-append (l ∷ u) v h k = (h .0, job3-append u v (h .1) k)
-
-letters-job3 : (c : List Statement) → All job3 (letters c)
-letters-job3 [] = tt
-letters-job3 (a ∷ c) = job3-append (letters c) (readAs a) (letters-job3 c) (one a)
-  where
-    one : (a : Statement) → All job3 (readAs a)
-    one =
-        each (λ a. All job3 (readAs a))
-        ((tt, tt), ((tt, tt), ((tt, tt), ((tt, tt), ((tt, (tt, (tt, tt))), ((tt, (tt, (tt, (tt, tt)))), (tt, tt)))))))
-
-pub reads-job3 : (s : List ℕ) (v : List Letter) → Reads s v → All job3 v
-reads-job3 s v x = subst (All job3) (sym (x .is)) (letters-job3 (x .right .circuit))
 
 -- ---- matrices
 -- the letters that are read of a text have its circuit's own matrix, phase included

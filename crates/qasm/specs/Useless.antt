@@ -5,14 +5,14 @@ use Prim.Native.Nat.{ℕ, zero, suc, _≤_}
 use native.Mathlib.Omega.{arith}
 use lib.Dec.{lit≤}
 use lib.ListN.{length, getD}
-use Rattle.exact.specs.Meaning.Word.{Letter, I, H, T′, bytes, job2, Spelled}
+use Rattle.exact.specs.Meaning.Word.{Letter, I, H, T′, bytes, Spelled}
 use Rattle.exact.specs.Meaning.Text.{Stops}
 use Rattle.exact.specs.Meaning.Limits.{longest, Accepted}
 use Rattle.exact.specs.Meaning.Limits as Limits
 use Rattle.exact.specs.Meaning.Outcome.{none, _then_}
 use Rattle.exact.specs.Meaning.Lent.{lent, over, untouched, Writes}
 use Rattle.exact.specs.Meaning.Refusals.{longAnswer, room, statement}
-use Rattle.exact.specs.Cases.Letters.{bytes-length, bytes-inj, none-outside, all-job2}
+use Rattle.exact.specs.Cases.Letters.{bytes-length, bytes-inj, none-outside}
 use Rattle.exact.specs.Outcomes.Ladder.{Passed, only-refused}
 use Rattle.exact.specs.Outcomes.Places.{one-stop}
 use Rattle.exact.specs.Outcomes.Lent.{handed-same, bytes-same}
@@ -45,7 +45,7 @@ module _ (u : List Letter) (old : List ℕ) (short : length u ≤ longest) (enou
   passes = (
     (λ p k. omega (arith, k .0, bytes-length u)),
     (
-      none-outside job2 u (all-job2 u),
+      none-outside u,
       ((λ p k. omega (arith, k .0 .more, same (k .0 .v) (k .0 .answer))), tt),
     ),
   )

@@ -7,11 +7,11 @@ use mir.Syntax.{w64}
 use mir.Val.{Fits}
 use lib.Dec.{lit≤}
 use lib.ListN.{length, length-append}
-use Rattle.exact.specs.Meaning.Word.{Letter as Gate, W, byte, job2, FirstOutside, First, Spelled}
+use Rattle.exact.specs.Meaning.Word.{Letter as Gate, W, byte, FirstOutside, First, Spelled}
 use Rattle.exact.specs.Meaning.Limits.{longest, Long, Letter, Phase, Room}
 use Rattle.exact.specs.Meaning.Outcome.{Rung}
 use Rattle.exact.specs.Meaning.Lent.{lent, untouched}
-use Rattle.exact.specs.Cases.Letters.{lettersOf, lettersOf-bytes, none-outside, all-job2}
+use Rattle.exact.specs.Cases.Letters.{lettersOf, lettersOf-bytes, lettersOf-length, none-outside}
 use Rattle.exact.specs.Outcomes.Lent as Lent
 use Rattle.lent.specs.Written.{Written as Puts, written-both, written-over}
 use Rattle.qasm.specs.declared.Written.{Written}
@@ -22,7 +22,7 @@ use Rattle.circuit_writer.specs.declared.Measured.the-variants.{Outside, Word}
 use Rattle.circuit.specs.Meaning.{Edition, two, three, header, lines, text, circuit}
 use Rattle.qasm.specs.Meaning.{refused, accepted, editionOf, Circuits, WriteOutcome}
 use Rattle.circuit_writer.specs.Writing.{Spells, Measures, PhaseIs, MeasureIs}
-use Rattle.circuit_writer.specs.WritingLaws.{size-most, lettersOf-length}
+use Rattle.circuit_writer.specs.WritingLaws.{size-most}
 
 -- ---- a header and the lines of a word, where there is room for them
 pub record PutsCircuit (head w old : List ℕ) (r : Written) (new : List ℕ) : Type 0 where
@@ -76,8 +76,8 @@ module _ (head w old : List ℕ) (r : Written) (n : ℕ) (m : Measures w n) wher
 
 -- ---- a measured word
 module _ (w old : List ℕ) (r : Written) (new : List ℕ) (s : Spells w) where
-  inside : (p : ℕ) → FirstOutside job2 w p → ⊥
-  inside p h = none-outside job2 (lettersOf w) (all-job2 (lettersOf w)) p (subst (λ x. FirstOutside job2 x p) (sym (s .is)) h)
+  inside : (p : ℕ) → FirstOutside w p → ⊥
+  inside p h = none-outside (lettersOf w) p (subst (λ x. FirstOutside x p) (sym (s .is)) h)
 
   -- the circuit of the letters that the bytes spell
   answer : (e : Edition) → PutsCircuit (header e) w old r new

@@ -1,23 +1,21 @@
--- How many letters: before normalising at most 6k+12 of H, S, X, W and T, of which at most 2k+1 are T; and a normal word with that matrix
+-- How many letters: before normalising at most 6k+12, of which at most 2k+1 are T; and a normal word with that matrix
 -- has at most 6k+16. Assumes nothing.
 use mathlib.Core.Path.{_≡_, _∙_, ap}
 use mathlib.Core.Bool.{Bool, true, false}
-use mathlib.Core.List.{List, [], _∷_, _++_}
+use mathlib.Core.List.{List, [], _∷_}
 use Prim.Native.Nat.{ℕ, zero, suc, _+_, _*_, _≤_}
 use native.Mathlib.Omega.{arith}
-use lib.Dec.{T}
 use lib.ListN.{length, length-append}
 use Rattle.exact.specs.Meaning.Matrix.{Same}
-use Rattle.exact.specs.Meaning.Word.{Letter, S, X, W, T′, word, tees, job3, All}
+use Rattle.exact.specs.Meaning.Word.{Letter, word, tees}
 use Rattle.exact.specs.Meaning.Normal.{Syllable, HT, SHT, Front, nothing, onlyH, onlySH, Tail, Fits, Normal}
-use Rattle.exact.specs.Meaning.Normal.{times, frontWord, tailWord, orI, after, leading}
+use Rattle.exact.specs.Meaning.Normal.{frontWord, tailWord, orI, after, leading}
 use Rattle.exact.specs.Meaning.Triple.{Triple, entries}
 use Rattle.exact.specs.Meaning.Limits.{deepest, enough}
 use Rattle.exact.specs.Matrices.Same.{Same-sym, Same-trans}
 use Rattle.exact.specs.Unique.Tails.{tees-append}
 use Rattle.exact.specs.Unique.Normal.{normal-fewest}
 use Rattle.steps.specs.Step.{Ready, block, power, next}
-use Rattle.steps.specs.Closing.{closing, spell, lead, swaps, quarters, phase}
 use Rattle.steps.specs.Closing.{closing-length, closing-tees, length-times}
 use Rattle.steps.specs.Steps.{letters, letters-end, letters-more, letters-same}
 use Rattle.steps.specs.Steps.{steps, by-steps, steps-more, steps-few}
@@ -60,40 +58,6 @@ letters-tees t r = omega (arith, by-step t r, steps-few t r)
         by-steps (λ t. tees (letters t) ≤ steps t + 1)
         (λ t r e. omega (arith, ap tees (letters-end t e), closing-tees t))
         (λ t k r e h. omega (arith, more-tees t k r e, block-tees (power t), steps-more t k r e))
-
--- ---- the letters are those of job 3
-abbrev pub Plain : List Letter → Type 0
-Plain u = All job3 u
-
-plain-append : (u v : List Letter) → Plain u → Plain v → Plain (u ++ v)
-plain-append [] v p q = q
-plain-append (l ∷ u) v p q = (p .0, plain-append u v (p .1) q)
-
-plain-times : (n : ℕ) (l : Letter) → T (job3 l) → Plain (times n l)
-plain-times zero l t = tt
-plain-times (suc n) l t = (t, plain-times n l t)
-
-pub block-plain : (m : ℕ) → Plain (block m)
-block-plain zero = (tt, tt)
-block-plain (suc zero) = (tt, (tt, tt))
-block-plain (suc (suc zero)) = (tt, (tt, tt))
-block-plain (suc (suc (suc m))) = (tt, (tt, (tt, tt)))
-
-pub closing-plain : (t : Triple) → Plain (closing t)
-unfolding closing
-closing-plain t = go (lead t) (swaps t) (quarters t) (phase t)
-  where
-    go : (p q s m : ℕ) → Plain (spell p q s m)
-    go p q s m =
-        plain-append (times p T′) (times q X ++ (times s S ++ times m W)) (plain-times p T′ tt)
-        (plain-append (times q X) (times s S ++ times m W) (plain-times q X tt)
-        (plain-append (times s S) (times m W) (plain-times s S tt) (plain-times m W tt)))
-
-pub letters-plain : (t : Triple) → Ready t → Plain (letters t)
-letters-plain =
-    by-steps (λ t. Plain (letters t))
-    (λ t r e. rw (letters-end t e) (closing-plain t))
-    (λ t k r e h. rw (letters-more t k r e) (plain-append (block (power t)) (letters (next t)) (block-plain (power t)) h))
 
 -- ---- a normal word: three letters for each T, and a tail of thirteen
 tail-length : (t : Tail) → Fits t → length (orI (tailWord t)) ≤ 13

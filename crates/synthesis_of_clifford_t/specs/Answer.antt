@@ -11,7 +11,7 @@ use mir.Facts.{toZ-ofZ}
 use mir.Syntax.{w64}
 use mir.Val.{SFits}
 use Rattle.exact.specs.Meaning.Matrix.{Matrix, Same}
-use Rattle.exact.specs.Meaning.Word.{Letter, word, bytes, job3, Spelled}
+use Rattle.exact.specs.Meaning.Word.{Letter, word, bytes, Spelled}
 use Rattle.exact.specs.Meaning.Normal.{NormalOf}
 use Rattle.exact.specs.Meaning.Triple.{Triple, entries}
 use Rattle.exact.specs.Meaning.Limits.{deepest}
@@ -37,7 +37,7 @@ use Rattle.writing.specs.Put.{Put}
 use Rattle.synthesis_of_clifford_t.specs.declared.Synthesis.{Synthesis}
 use Rattle.steps.specs.Step.{Ready}
 use Rattle.steps.specs.Steps.{letters, letters-same}
-use Rattle.steps.specs.Counts.{letters-plain, letters-length}
+use Rattle.steps.specs.Counts.{letters-length}
 use Rattle.synthesis_of_clifford_t.specs.Meaning.{refused, counts, SynthesiseOutcome}
 
 -- the normal word of a reduced triple, where there is room for it
@@ -63,11 +63,11 @@ abbrev kept : Job3.Written → Synthesis
 kept r = record { refusal = r .refusal; bytes = r .bytes; tees = r .tees }
 
 module _ (t : Triple) (ready : Ready t) (few : t .k ≤ deepest) (old : List ℕ) (r : Job3.Written) (new : List ℕ) where
-  -- neither too long nor with another letter
-  plain-passed : Passed (long (bytes (letters t)) then letter job3 (bytes (letters t)) then none)
+  -- neither too long nor with a byte that is no letter
+  plain-passed : Passed (long (bytes (letters t)) then letter (bytes (letters t)) then none)
   plain-passed = (
     (λ p h. omega (arith, h .0, bytes-length (letters t), letters-length t ready)),
-    (none-outside job3 (letters t) (letters-plain t ready), tt),
+    (none-outside (letters t), tt),
   )
 
   to-triple : (v : List Letter) → Spelled Normalises (bytes (letters t)) v → NormalOf (entries t) v
@@ -87,7 +87,7 @@ module _ (t : Triple) (ready : Ready t) (few : t .k ≤ deepest) (old : List ℕ
       written-as bytes Normalised.counts counts (Spelled Normalises (bytes (letters t))) (NormalOf (entries t)) old Normalised.refused refused kept
       (λ n p. refl) (λ v. refl) to-triple to-letters (lent r new)
       (skip (untouched Normalised.refused old) (Writes bytes Normalised.counts (Spelled Normalises (bytes (letters t))) old)
-      (long (bytes (letters t)) then letter job3 (bytes (letters t)) then none) (room bytes (Spelled Normalises (bytes (letters t))) old then none)
+      (long (bytes (letters t)) then letter (bytes (letters t)) then none) (room bytes (Spelled Normalises (bytes (letters t))) old then none)
       plain-passed (lent r new) o)
 
   pub normalised : (w : List ℕ) → w ≡ bytes (letters t) → NormaliseOutcome w old r new → AnsweredBy t old (kept r) new

@@ -5,7 +5,7 @@ use Prim.Native.Nat.{ℕ, _≤_}
 use lib.IntN.{pos}
 use lib.ListN.{length, take}
 use Rattle.exact.specs.Meaning.Matrix.{Same}
-use Rattle.exact.specs.Meaning.Word.{Letter, word, bytes, job3, All}
+use Rattle.exact.specs.Meaning.Word.{Letter, word, bytes}
 use Rattle.exact.specs.Meaning.Normal.{Normal}
 use Rattle.exact.specs.Meaning.Endings.{AllShallow}
 use Rattle.exact.specs.Meaning.Limits.{longest, enough, Accepted}
@@ -19,9 +19,8 @@ use Rattle.synthesis_of_clifford_t.specs.declared.Synthesis.{Synthesis}
 use Rattle.synthesis_of_clifford_t.specs.Meaning as Job4
 use Rattle.synthesis_of_clifford_t.specs.Meaning.{SynthesiseOutcome}
 
--- a word of job 3's letters, not too long, none of whose endings is too deep
+-- a word over all six letters, not too long, none of whose endings is too deep
 pub record Within (u : List Letter) : Type 0 where
-  pub plain : All job3 u
   pub few : length u ≤ longest
   pub shallow : AllShallow u
 
