@@ -6,3 +6,6 @@ pub mod Answers
 pub mod Emptied
 pub mod Theorems
 pub mod Skipped
+pub mod Closed
+pub mod Again
+pub mod Identity

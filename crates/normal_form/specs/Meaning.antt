@@ -1,9 +1,12 @@
--- What jobs 3 and 5 promise: document 01's refusals in their order, or the answer in the lent bytes.
-use mathlib.Core.List.{List}
+-- What jobs 3 and 5 promise: document 01's refusals in their order, or the answer in the lent bytes; and what comes out where a phase-free word
+-- is fed back.
+use mathlib.Core.Bool.{Bool, true, cond}
+use mathlib.Core.List.{List, [], _∷_}
 use Prim.Native.Nat.{ℕ}
+use lib.Dec.{eqb}
 use lib.ListN.{length}
 use Rattle.exact.specs.Meaning.Matrix.{Same}
-use Rattle.exact.specs.Meaning.Word.{Letter as Gate, word, tees, bytes, Spelled}
+use Rattle.exact.specs.Meaning.Word.{Letter as Gate, I, word, tee, tees, bytes, Spelled}
 use Rattle.exact.specs.Meaning.Normal.{NormalOf, PhaseFree}
 use Rattle.exact.specs.Meaning.Limits.{Accepted}
 use Rattle.exact.specs.Meaning.Outcome.{Refusals, none, _then_, Outcome}
@@ -42,3 +45,12 @@ NormaliseOutcome w old r new = WordOutcome Normalises w old r new
 
 abbrev pub PhaseFreeOutcome : List ℕ → List ℕ → Written → List ℕ → Type 0
 PhaseFreeOutcome w old r new = WordOutcome Shortens w old r new
+
+-- ---- a word whose tail is empty is closed by an I: the letters, and behind them an I where it is due, which it is behind a T and where there
+-- is no letter
+abbrev pub closedIf : Bool → List Gate → List Gate
+closedIf due [] = cond due (I ∷ []) []
+closedIf due (l ∷ u) = l ∷ closedIf (eqb (tee l) 1) u
+
+abbrev pub closed : List Gate → List Gate
+closed u = closedIf true u

@@ -16,7 +16,7 @@ use Rattle.exact.specs.Meaning.Lent.{Lent, lent, over, untouched, Writes}
 use Rattle.exact.specs.Matrices.Test.{sameTest, same-by}
 use Rattle.exact.specs.Unique.Normal.{normal-fewest}
 use Rattle.exact.specs.Outcomes.Ladder.{Only, always}
-use Rattle.exact.specs.Cases.Letters.{bytes-inj, none-outside}
+use Rattle.exact.specs.Cases.Letters.{bytes-inj, bytes-length, none-outside}
 use Rattle.exact.specs.Cases.NormalTest.{normalTest, normal-by}
 use Rattle.exact.specs.Cases.Table.{Row, Each, cases, Normalised, all-cases}
 use Rattle.exact.specs.Outcomes.Lent.{handed-same, bytes-same}
@@ -57,17 +57,12 @@ never-adds u old r new o =
         let m : (tees (a .v) ≤ tees (s .letters)) = normal-fewest (s .letters) (s .holds .same) (s .holds .normal) in
         omega (arith, ap (λ (y : Lent Written). y .handed .tees) (a .is), ap tees (bytes-inj (s .letters) u (s .spelled)))
 
--- ---- a word that is not too long
-abbrev short : List Letter → Bool
-short u = leb (length (bytes u)) longest
-
--- the answer v to such a word u: what is handed back, and nothing else, where it fits and where it does not
+-- ---- the answer v to a word u that is not too long: what is handed back, and nothing else, where it fits and where it does not
 module _ (Answer : List Letter → List Letter → Type 0) (one : (u : List Letter) → Only (Answer u)) (u v : List Letter) (old : List ℕ)
-    (t : T (short u)) (a : Answer u v) where
+    (t : length u ≤ longest) (a : Answer u v) where
   by-room : (r : Written) (new : List ℕ) → RoomOutcome (λ x. x ≡ v) old r new → WordOutcome Answer (bytes u) old r new
   by-room r new =
-      answered-with one (bytes u) old v (record { letters = u; spelled = refl; holds = a }) r new
-      (leb→le (length (bytes u)) longest t) (none-outside u)
+      answered-with one (bytes u) old v (record { letters = u; spelled = refl; holds = a }) r new (omega (arith, bytes-length u)) (none-outside u)
 
   refused-there : length old < length (bytes v) → WordOutcome Answer (bytes u) old (refused Room 0) old
   refused-there l = by-room (refused Room 0) old (no-room v old (refused Room 0) l refl)
@@ -90,14 +85,15 @@ pub record CaseMet (r : Row) : Type 0 where
 
 abbrev every : List Row → Bool
 every [] = true
-every (r ∷ rs) = short (r .left) && every rs
+every (r ∷ rs) = leb (length (r .left)) longest && every rs
 
 each-met : (rs : List Row) → Each Normalised rs → T (every rs) → Each CaseMet rs
 each-met [] e t = tt
 each-met (r ∷ rs) e t =
-    let s = and-yes (short (r .left)) (every rs) t in
+    let s = and-yes (leb (length (r .left)) longest) (every rs) t in
+    let few = leb→le (length (r .left)) longest (s .0) in
     let a : Normalises (r .left) (r .right) = record { normal = e .0 .normal; same = e .0 .same } in
-    (record { met = λ old. fits Normalises normalises-single (r .left) (r .right) old (s .0) a }, each-met rs (e .1) (s .1))
+    (record { met = λ old. fits Normalises normalises-single (r .left) (r .right) old few a }, each-met rs (e .1) (s .1))
 
 pub cases-met : Each CaseMet cases
 unfolding cases
@@ -115,7 +111,7 @@ shortened u v x t e =
     record { whole = v; phase-free = record { normal = a .normal; less = e }; same = a .same }
 
 -- a program's answer for a word u, where the right answer v fits, is v
-module _ (u v : List Letter) (old : List ℕ) (t : T (short u)) (l : length (bytes v) ≤ length old) {r : Written} {new : List ℕ} where
+module _ (u v : List Letter) (old : List ℕ) (t : length u ≤ longest) (l : length (bytes v) ≤ length old) {r : Written} {new : List ℕ} where
   pub job3-only : Normalises u v → NormaliseOutcome (bytes u) old r new → lent r new ≡ lent (counts v) (over (bytes v) old)
   job3-only a = only-fits Normalises normalises-single u v old t a r new l
 
@@ -148,12 +144,12 @@ dots (suc n) = 46 ∷ dots n
 pub refuses-all-3 : (r : Written) (new : List ℕ) → NormaliseOutcome [] (dots 1) r new → r .refusal ≡ 0
 refuses-all-3 r new o =
     let a = normalised none (I ∷ []) tt in
-    ap (λ (x : Written). x .refusal) (handed-same (job3-only none (I ∷ []) (dots 1) tt (omega arith) a o))
+    ap (λ (x : Written). x .refusal) (handed-same (job3-only none (I ∷ []) (dots 1) (omega arith) (omega arith) a o))
 
 pub refuses-all-5 : (r : Written) (new : List ℕ) → PhaseFreeOutcome [] (dots 1) r new → r .refusal ≡ 0
 refuses-all-5 r new o =
     let a = shortened none (I ∷ []) (I ∷ []) tt refl in
-    ap (λ (x : Written). x .refusal) (handed-same (job5-only none (I ∷ []) (dots 1) tt (omega arith) a o))
+    ap (λ (x : Written). x .refusal) (handed-same (job5-only none (I ∷ []) (dots 1) (omega arith) (omega arith) a o))
 
 -- ---- always I
 T-normalised : Normalises one-T (T′ ∷ I ∷ [])
@@ -163,17 +159,17 @@ T-shortened : Shortens one-T (T′ ∷ I ∷ [])
 T-shortened = shortened one-T (T′ ∷ I ∷ []) (T′ ∷ I ∷ []) tt refl
 
 pub always-I-3 : (r : Written) → NormaliseOutcome (bytes one-T) (dots 2) r (bytes (I ∷ []) ++ dots 1) → ⊥
-always-I-3 r o = omega (arith, first-same (job3-only one-T (T′ ∷ I ∷ []) (dots 2) tt (omega arith) T-normalised o))
+always-I-3 r o = omega (arith, first-same (job3-only one-T (T′ ∷ I ∷ []) (dots 2) (omega arith) (omega arith) T-normalised o))
 
 pub always-I-5 : (r : Written) → PhaseFreeOutcome (bytes one-T) (dots 2) r (bytes (I ∷ []) ++ dots 1) → ⊥
-always-I-5 r o = omega (arith, first-same (job5-only one-T (T′ ∷ I ∷ []) (dots 2) tt (omega arith) T-shortened o))
+always-I-5 r o = omega (arith, first-same (job5-only one-T (T′ ∷ I ∷ []) (dots 2) (omega arith) (omega arith) T-shortened o))
 
 -- ---- the word copied through
 pub copied-3 : (r : Written) → NormaliseOutcome (bytes two-T) (dots 2) r (bytes two-T) → ⊥
-copied-3 r o = omega (arith, first-same (job3-only two-T (S ∷ []) (dots 2) tt (omega arith) (normalised two-T (S ∷ []) tt) o))
+copied-3 r o = omega (arith, first-same (job3-only two-T (S ∷ []) (dots 2) (omega arith) (omega arith) (normalised two-T (S ∷ []) tt) o))
 
 pub copied-5 : (r : Written) → PhaseFreeOutcome (bytes two-T) (dots 2) r (bytes two-T) → ⊥
-copied-5 r o = omega (arith, first-same (job5-only two-T (S ∷ []) (dots 2) tt (omega arith) (shortened two-T (S ∷ []) (S ∷ []) tt refl) o))
+copied-5 r o = omega (arith, first-same (job5-only two-T (S ∷ []) (dots 2) (omega arith) (omega arith) (shortened two-T (S ∷ []) (S ∷ []) tt refl) o))
 
 -- ---- the first hundred letters normalised, and the others copied: those hundred are WWWW
 pub first-hundred : Normalises (times 100 W) (times 4 W)
@@ -183,9 +179,9 @@ whole-hundred : T (normalTest (S ∷ times 4 W) && sameTest (word hundred) (word
 unfolding hundred
 whole-hundred = tt
 
-short-hundred : T (short hundred)
+short-hundred : length hundred ≤ longest
 unfolding hundred
-short-hundred = tt
+short-hundred = leb→le (length hundred) longest tt
 
 pub first-letters-3 : (r : Written) → NormaliseOutcome (bytes hundred) (dots 8) r (bytes (times 4 W ++ two-T) ++ dots 2) → ⊥
 first-letters-3 r o =
@@ -201,11 +197,11 @@ first-letters-5 r o =
 pub tees-too-many : (new : List ℕ)
     → NormaliseOutcome (bytes one-T) (dots 2) (record { refusal = Accepted; place = 0; bytes = 2; tees = 2 }) new → ⊥
 tees-too-many new o =
-    let e = handed-same (job3-only one-T (T′ ∷ I ∷ []) (dots 2) tt (omega arith) T-normalised o) in
+    let e = handed-same (job3-only one-T (T′ ∷ I ∷ []) (dots 2) (omega arith) (omega arith) T-normalised o) in
     omega (arith, ap (λ (x : Written). x .tees) e)
 
 -- ---- a byte written before the room test: the word T with room for one byte
 pub early-byte : (r : Written) → NormaliseOutcome (bytes one-T) (dots 1) r (84 ∷ []) → ⊥
 early-byte r o =
-    let e = only-refused Normalises normalises-single one-T (T′ ∷ I ∷ []) (dots 1) tt T-normalised r (84 ∷ []) (omega arith) o in
+    let e = only-refused Normalises normalises-single one-T (T′ ∷ I ∷ []) (dots 1) (omega arith) T-normalised r (84 ∷ []) (omega arith) o in
     omega (arith, first-same e)

@@ -6,9 +6,11 @@ use native.Mathlib.Omega.{arith}
 use lib.ListN.{length}
 use Rattle.exact.specs.Meaning.Word.{Letter as Gate, bytes, FirstOutside, Spelled}
 use Rattle.exact.specs.Meaning.Limits.{longest, Long, Letter, Room}
-use Rattle.exact.specs.Meaning.Outcome.{Rung}
+use Rattle.exact.specs.Meaning.Outcome.{Rung, none, _then_}
 use Rattle.exact.specs.Meaning.Lent.{lent, over, untouched}
-use Rattle.exact.specs.Outcomes.Ladder.{Only}
+use Rattle.exact.specs.Meaning.Refusals.{long, letter}
+use Rattle.exact.specs.Cases.Letters.{bytes-length, none-outside}
+use Rattle.exact.specs.Outcomes.Ladder.{Only, Passed}
 use Rattle.exact.specs.Outcomes.Places.{one-spelled}
 use Rattle.exact.specs.Outcomes.Lent as Lent
 use Rattle.exact.specs.Outcomes.Lent.{written-as}
@@ -18,6 +20,10 @@ use Rattle.normal_form.specs.Meaning.{refused, counts, WordOutcome}
 -- by a refusal the lent bytes stay
 stays : {r : Written} {n p : ℕ} (old : List ℕ) → r ≡ refused n p → lent r old ≡ untouched refused old n p
 stays old e = ap (λ (x : Written). lent x old) e
+
+-- a word that is not too long passes both of a word's refusals
+pub word-passes : (u : List Gate) → length u ≤ longest → Passed (long (bytes u) then letter (bytes u) then none)
+word-passes u l = ((λ p h. omega (arith, h .0, bytes-length u)), (none-outside u, tt))
 
 module _ (Answer : List Gate → List Gate → Type 0) (w old : List ℕ) (r : Written) where
   pub too-long : longest < length w → r ≡ refused Long 0 → WordOutcome Answer w old r old

@@ -199,10 +199,10 @@ end-whole r = end-at (r .axis) (r .rest)
 pub record Keeps (u : List Letter) : Type 0 where
   pub keeps : (v : List Letter) → lessFinalW (u ++ v) ≡ u ++ lessFinalW v
 
-keeps-nil : Keeps []
+pub keeps-nil : Keeps []
 keeps-nil = record { keeps = λ v. refl }
 
-keeps-append : {u v : List Letter} → Keeps u → Keeps v → Keeps (u ++ v)
+pub keeps-append : {u v : List Letter} → Keeps u → Keeps v → Keeps (u ++ v)
 keeps-append {u} {v} h k =
     record {
       keeps =
@@ -213,14 +213,14 @@ keeps-append {u} {v} h k =
           ∙ sym (append-assoc u v (lessFinalW x));
     }
 
-keeps-times : (n : ℕ) (l : Letter) → ((u : List Letter) → kept l u ≡ l ∷ u) → Keeps (times n l)
+pub keeps-times : (n : ℕ) (l : Letter) → ((u : List Letter) → kept l u ≡ l ∷ u) → Keeps (times n l)
 keeps-times n l f = record { keeps = λ v. go n v }
   where
     go : (n : ℕ) (v : List Letter) → lessFinalW (times n l ++ v) ≡ times n l ++ lessFinalW v
     go zero v = refl
     go (suc n) v = ap (kept l) (go n v) ∙ f (times n l ++ lessFinalW v)
 
-no-more : (n : ℕ) → lessFinalW (times n W) ≡ []
+pub no-more : (n : ℕ) → lessFinalW (times n W) ≡ []
 no-more zero = refl
 no-more (suc n) = ap (kept W) (no-more n)
 
@@ -253,7 +253,7 @@ text-less st =
     ∙ ap (λ u. prefix (st .lead) (st .stack) ++ u) (end-less (endingOf true (st .q)))
 
 -- ---- T letters
-times-tees : (n : ℕ) (l : Letter) → Rattle.exact.specs.Meaning.Word.tee l ≡ 0 → tees (times n l) ≡ 0
+pub times-tees : (n : ℕ) (l : Letter) → Rattle.exact.specs.Meaning.Word.tee l ≡ 0 → tees (times n l) ≡ 0
 times-tees zero l e = refl
 times-tees (suc n) l e = omega (arith, times-tees n l e)
 

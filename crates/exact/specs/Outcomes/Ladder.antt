@@ -43,6 +43,16 @@ module _ {R : Type 0} (refused : ℕ → ℕ → R) (Answer : R → Type 0) wher
   answered (f then fs) h r (Rung.given p k e) = absurd (h .0 p k)
   answered (f then fs) h r (Rung.passed n x) = answered fs (h .1) r x
 
+  -- and so it is where what is handed back is that of no refusal
+  abbrev pub NoneGives : (R → Type 0) → Refusals → Type 0
+  NoneGives P none = Unit {0}
+  NoneGives P (f then fs) = ((p : ℕ) → P (refused (f .number) p) → ⊥) × NoneGives P fs
+
+  pub accepted : (P : R → Type 0) (fs : Refusals) → NoneGives P fs → (r : R) → P r → Outcome refused Answer fs r → Answer r
+  accepted P none h r a x = x
+  accepted P (f then fs) h r a (Rung.given p k e) = absurd (h .0 p (subst P e a))
+  accepted P (f then fs) h r a (Rung.passed n x) = accepted P fs (h .1) r a x
+
   -- where one holds and those before it don't, it is given, at its place, and nothing else is
   module _ (f : Refusal) (one : (p q : ℕ) → f .At p → f .At q → p ≡ q) (p : ℕ) (h : f .At p) where
     pub only-refused : (fs gs : Refusals) → Passed fs → (r : R) → Outcome refused Answer (fs also (f then gs)) r → r ≡ refused (f .number) p

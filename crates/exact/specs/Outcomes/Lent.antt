@@ -4,7 +4,8 @@ use mathlib.Core.Path.{_≡_, refl, sym, _∙_, ap, ap₂}
 use mathlib.Core.List.{List}
 use Prim.Native.Nat.{ℕ, _<_, _≤_}
 use native.Mathlib.Omega.{arith}
-use lib.ListN.{length, drop, length-append}
+use lib.ListN.{length, take, drop, length-append}
+use lib.Seq.{take-at}
 use Rattle.exact.specs.Meaning.Outcome.{Refusals, none, _then_, Rung, Outcome}
 use Rattle.exact.specs.Meaning.Lent.{Lent, lent, over, untouched, Writes}
 use Rattle.exact.specs.Meaning.Limits.{Room}
@@ -16,6 +17,10 @@ handed-same {H} e = ap (λ (l : Lent H). l .handed) e
 
 pub bytes-same : {H : Type 0} {r s : H} {x y : List ℕ} → lent r x ≡ lent s y → x ≡ y
 bytes-same {H} e = ap (λ (l : Lent H). l .buffer) e
+
+-- of the lent bytes, as many as a text has
+pub text-there : (text old : List ℕ) (n : ℕ) → n ≡ length text → take n (over text old) ≡ text
+text-there text old n e = take-at text (drop (length text) old) n (sym e)
 
 module _ {A H : Type 0} (text : A → List ℕ) (counts : A → H) (Answer : A → Type 0) (old : List ℕ) where
   pub one-written : Only Answer → Only (Writes text counts Answer old)

@@ -5,7 +5,7 @@ use Prim.Native.Nat.{ℕ, suc, _<_, _≤_}
 use native.Mathlib.Omega.{arith}
 use lib.ListN.{take, drop, take-append-drop}
 use lib.Seq.{take-take}
-use Rattle.exact.specs.Meaning.Word.{Letter, FirstOutside, First, Spelled}
+use Rattle.exact.specs.Meaning.Word.{Letter, bytes, FirstOutside, First, Spelled}
 use Rattle.exact.specs.Meaning.Text.{Begins, Stops}
 use Rattle.exact.specs.Meaning.Endings.{Shallow, Deep, DeepAt}
 use Rattle.exact.specs.Meaning.Matrix.{Matrix}
@@ -57,6 +57,10 @@ pub one-spelled : {A : Type 0} (Of : List Letter → A → Type 0) → ((u : Lis
 one-spelled Of one w a b x y =
     one (x .letters) a b (x .holds)
     (subst (λ (u : List Letter). Of u b) (bytes-inj (y .letters) (x .letters) (y .spelled ∙ sym (x .spelled))) (y .holds))
+
+-- what the bytes of a word spell is the word
+pub of-bytes : {A : Type 0} {Of : List Letter → A → Type 0} {a : A} (u : List Letter) → Spelled Of (bytes u) a → Of u a
+of-bytes {Of = Of} {a = a} u s = subst (λ (x : List Letter). Of x a) (bytes-inj (s .letters) u (s .spelled)) (s .holds)
 
 one-end : (u : List Letter) → Only (DeepAt u)
 one-end u p q a b = omega (arith, below a b, below b a)
