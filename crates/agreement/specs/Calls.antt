@@ -18,7 +18,7 @@ use Rattle.agreement.specs.Meaning.Exports.{Wrote, Made, kOf, nOf, zwOf,
 use Rattle.agreement.specs.Jobs.{ways-agree, one-word, written}
 
 -- what an export leaves of its job's answer
-abbrev ofNormalised : Lent Written → Wrote
+abbrev pub ofNormalised : Lent Written → Wrote
 ofNormalised j = (j .handed .refusal, (counts (j .handed), j .buffer))
 
 abbrev ofSynthesised : Lent Synthesis → Wrote

@@ -6,7 +6,6 @@ use native.Mathlib.Omega.{arith}
 use lib.Dec.{le→leb}
 use lib.IntN.{pos}
 use lib.ListN.{length, take, drop}
-use lib.Seq.{take-at}
 use Rattle.exact.specs.Meaning.Matrix.{Matrix, Same}
 use Rattle.exact.specs.Meaning.Word.{Letter, word, tees, bytes, Spelled}
 use Rattle.exact.specs.Meaning.Normal.{Normal, NormalOf}
@@ -16,14 +15,15 @@ use Rattle.exact.specs.Meaning.Limits.{longest, deepest, enough, Accepted}
 use Rattle.exact.specs.Meaning.Outcome.{none, _then_, _also_}
 use Rattle.exact.specs.Meaning.Lent.{Lent, lent, over, untouched, Writes}
 use Rattle.exact.specs.Meaning.Refusals.{long, letter, deep, checks, TooMany, room}
-use Rattle.exact.specs.Cases.Letters.{bytes-inj, bytes-length, none-outside}
+use Rattle.exact.specs.Cases.Letters.{bytes-length, none-outside}
 use Rattle.exact.specs.Matrices.Same.{Same-sym, Same-trans, Same-of}
 use Rattle.exact.specs.Matrices.Least.{least-unique, least-same}
 use Rattle.exact.specs.Matrices.Sizes.{z-sized, w-sized}
 use Rattle.exact.specs.Matrices.Triples.{word-triple, word-unitary, unitary-same}
 use Rattle.exact.specs.Unique.Normal.{unique}
 use Rattle.exact.specs.Outcomes.Ladder.{answered}
-use Rattle.exact.specs.Outcomes.Places.{not-both}
+use Rattle.exact.specs.Outcomes.Lent.{text-there}
+use Rattle.exact.specs.Outcomes.Places.{not-both, of-bytes}
 use Rattle.exact.specs.Outcomes.Checked.{Taken, taken-checks}
 use Rattle.ring.specs.Meaning.{quad}
 use Rattle.unitary.specs.declared.FromGates.{FromGates}
@@ -59,10 +59,6 @@ module _ (u : List Letter) (w : Within u) where
   few-bytes : (p : ℕ) → (longest < length (bytes u)) × (p ≡ 0) → ⊥
   few-bytes p h = omega (arith, h .0, bytes-length u, w .few)
 
-  -- what the bytes of the word spell is the word
-  of-word : {A : Type 0} {Of : List Letter → A → Type 0} {a : A} → Spelled Of (bytes u) a → Of u a
-  of-word {A} {Of} {a} s = subst (λ (x : List Letter). Of x a) (bytes-inj (s .letters) u (s .spelled)) (s .holds)
-
   -- ---- job 3
   job-3 : (old : List ℕ) (r : Written) (new : List ℕ) → enough ≤ length old → NormaliseOutcome (bytes u) old r new
       → Writes bytes Job3.counts (Spelled Normalises (bytes u)) old (lent r new)
@@ -73,17 +69,17 @@ module _ (u : List Letter) (w : Within u) where
       has-room : (p : ℕ) → TooMany bytes (Spelled Normalises (bytes u)) old × (p ≡ 0) → ⊥
       has-room p h =
           fits (word u) (Same-of refl) old l p
-          (record { v = h .0 .v; answer = of-word (h .0 .answer); more = h .0 .more }, h .1)
+          (record { v = h .0 .v; answer = of-bytes u (h .0 .answer); more = h .0 .more }, h .1)
 
   -- ---- job 2
   job-2 : (r : FromGates) → MatrixOutcome (bytes u) r → Multiplies u r
   job-2 r o =
-      of-word
+      of-bytes u
       (answered stopped (Spelled Multiplies (bytes u)) (long (bytes u) then letter (bytes u) then deep (bytes u) then none)
       (few-bytes, (none-outside u, (not-deep, tt))) r o)
     where
       not-deep : (p : ℕ) → Spelled DeepAt (bytes u) p → ⊥
-      not-deep p s = let d = of-word s in not-both (w .shallow .at p (omega (arith, d .there))) (d .deep)
+      not-deep p s = let d = of-bytes u s in not-both (w .shallow .at p (omega (arith, d .there))) (d .deep)
 
   pub taken-2 : (r : FromGates) → MatrixOutcome (bytes u) r → r .refusal ≡ Accepted
   taken-2 r h = job-2 r h .taken
@@ -124,7 +120,7 @@ module _ {u : List Letter} (w : Within u) {old₁ old₂ : List ℕ} {first : Le
   pub ways-agree : BothWays u old₁ old₂ first matrix second → (v : List Letter) × Agreed u v old₁ old₂ first matrix second
   ways-agree b =
       let x = job-3 u w old₁ (first .handed) (first .buffer) (b .room₁) (b .normalised) in
-      let n = of-word u w (x .answer) in
+      let n = of-bytes u (x .answer) in
       let m = job-2 u w matrix (b .multiplied) in
       let y = job-4 u w matrix (m .answer) old₂ (second .handed) (second .buffer) (b .room₂) (b .synthesised) in
       let s = Same-trans (Same-sym (y .answer .same)) (Same-trans (m .answer .same) (n .same)) in
@@ -146,7 +142,7 @@ pub one-word : (u u′ : List Letter) {v v′ : List Letter} → Same (word u) (
 one-word u u′ s n a n′ b = unique n n′ (Same-trans a (Same-trans s (Same-sym b)))
 
 pub written : (v : List Letter) (old : List ℕ) → take (length v) (over (bytes v) old) ≡ bytes v
-written v old = take-at (bytes v) (drop (length (bytes v)) old) (length v) (bytes-length v)
+written v old = text-there (bytes v) old (length v) (sym (bytes-length v))
 
 abbrev seenOf : List Letter → Seen
 seenOf v = record { refusal = Accepted; bytes = length v; tees = tees v; text = bytes v }

@@ -6,3 +6,5 @@ pub mod Demand3
 pub mod Agree
 pub mod Ways
 pub mod Unique
+pub mod Identity
+pub mod Again

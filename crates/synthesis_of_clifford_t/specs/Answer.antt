@@ -18,11 +18,11 @@ use Rattle.exact.specs.Meaning.Limits.{deepest}
 use Rattle.exact.specs.Meaning.Outcome.{none, _then_}
 use Rattle.exact.specs.Meaning.Lent.{lent, untouched, Writes}
 use Rattle.exact.specs.Meaning.Refusals.{long, letter, room}
-use Rattle.exact.specs.Cases.Letters.{bytes-inj, bytes-length, none-outside}
 use Rattle.exact.specs.Whole.Machine.{held}
 use Rattle.exact.specs.Matrices.Same.{Same-sym, Same-trans}
 use Rattle.exact.specs.Matrices.Triples.{unitary-same}
 use Rattle.exact.specs.Outcomes.Ladder.{Passed, skip}
+use Rattle.exact.specs.Outcomes.Places.{of-bytes}
 use Rattle.exact.specs.Outcomes.Lent.{Written, written-as}
 use Rattle.ring.specs.declared.ZOmega.{ZOmega}
 use Rattle.unitary.specs.declared.DOmegaUnitary.{DOmegaUnitary}
@@ -33,6 +33,7 @@ use Rattle.unitary.specs.Acts.{Good}
 use Rattle.normal_form.specs.declared.Written as Job3
 use Rattle.normal_form.specs.Meaning as Normalised
 use Rattle.normal_form.specs.Meaning.{Normalises, NormaliseOutcome}
+use Rattle.normal_form.specs.Ways.{word-passes}
 use Rattle.writing.specs.Put.{Put}
 use Rattle.synthesis_of_clifford_t.specs.declared.Synthesis.{Synthesis}
 use Rattle.steps.specs.Step.{Ready}
@@ -65,18 +66,12 @@ kept r = record { refusal = r .refusal; bytes = r .bytes; tees = r .tees }
 module _ (t : Triple) (ready : Ready t) (few : t .k ≤ deepest) (old : List ℕ) (r : Job3.Written) (new : List ℕ) where
   -- neither too long nor with a byte that is no letter
   plain-passed : Passed (long (bytes (letters t)) then letter (bytes (letters t)) then none)
-  plain-passed = (
-    (λ p h. omega (arith, h .0, bytes-length (letters t), letters-length t ready)),
-    (none-outside (letters t), tt),
-  )
+  plain-passed = word-passes (letters t) (omega (arith, letters-length t ready))
 
   to-triple : (v : List Letter) → Spelled Normalises (bytes (letters t)) v → NormalOf (entries t) v
   to-triple v s =
-      record {
-        normal = s .holds .normal;
-        same = Same-trans (Same-sym (letters-same t ready))
-            (subst (λ (u : List Letter). Same (word u) (word v)) (bytes-inj (s .letters) (letters t) (s .spelled)) (s .holds .same));
-      }
+      let a = of-bytes (letters t) s in
+      record { normal = a .normal; same = Same-trans (Same-sym (letters-same t ready)) (a .same) }
 
   to-letters : (v : List Letter) → NormalOf (entries t) v → Spelled Normalises (bytes (letters t)) v
   to-letters v n =
