@@ -59,6 +59,17 @@ static void there_and_back(void)
     word("word of that matrix", refusal, buf, out, (const char *)first);
 }
 
+/* An answer handed in again is given back. */
+static void again(void)
+{
+    const int64_t t[8] = {0, 0, 0, 1};
+    uint64_t out[3];
+    uint8_t first[DUNROSSEL_ENOUGH], buf[DUNROSSEL_ENOUGH];
+    check("word of T", dunrossel_synthesise(0, 1, t, first, sizeof first, out) == 0);
+    uint8_t refusal = dunrossel_normalise(first, out[1], buf, sizeof buf, out);
+    word("that word normalised", refusal, buf, out, "TI");
+}
+
 /* A word's circuit, and the letters that are read from it: those of the word, but for I. */
 static void circuits(void)
 {
@@ -109,6 +120,7 @@ int main(void)
 {
     words();
     there_and_back();
+    again();
     circuits();
     numbers();
     bench();

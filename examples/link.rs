@@ -153,11 +153,13 @@ fn main() {
     for (word, normal) in [("", "I"), ("T", "TI"), ("HSH", "SHXSSSW"), ("SHTT", "SHS"), ("XT", "TXSWWWWWWW")] {
         println!("normalise {word}: {:?}", normalise(word, ENOUGH));
         assert_eq!(normalise(word, ENOUGH).as_deref(), Ok(normal));
+        assert_eq!(normalise(normal, ENOUGH).as_deref(), Ok(normal));
         let m = matrix(word).unwrap();
         assert_eq!(reduce(&m), Ok(m));
         assert_eq!(synthesise(&m, ENOUGH).as_deref(), Ok(normal));
     }
     assert_eq!(phase_free("HSH", 6).as_deref(), Ok("SHXSSS"));
+    assert_eq!((phase_free("TW", 1), normalise("T", 2)), (Ok("T".into()), Ok("TI".into())));
     assert_eq!(normalise("T", 1), Err(Refused { number: 7, place: 0 }));
     assert_eq!(normalise(&"T".repeat(4097), ENOUGH), Err(Refused { number: 1, place: 0 }));
     assert_eq!(matrix("HTZ"), Err(Refused { number: 2, place: 2 }));

@@ -3,7 +3,8 @@
  * Numbers. zw is z.a z.b z.c z.d w.a w.b w.c w.d; (a,b,c,d) stands for a·omega^3 + b·omega^2 + c·omega + d. With k and n
  * they are the matrix with rows [z, -conj(w)·omega^n] and [w, conj(z)·omega^n] over root two to the k; n counts modulo 8.
  *
- * Words are bytes, one for each letter, with no zero at the end. The leftmost letter is the leftmost factor.
+ * Words are bytes, one for each letter, with no zero at the end. The leftmost letter is the leftmost factor. Every call that
+ * takes a word takes the letters I H S X W T, I being the identity, so that an answer can be handed in again.
  *
  * A slice is a pointer and the number of bytes behind it. Nothing is read or written through the pointer of an empty slice.
  *
@@ -25,7 +26,7 @@
 enum {
     DUNROSSEL_ACCEPTED = 0,
     DUNROSSEL_LONG = 1,        /* the word has more than 4,096 letters */
-    DUNROSSEL_LETTER = 2,      /* a byte is none of the function's letters; place: the first such */
+    DUNROSSEL_LETTER = 2,      /* a byte is none of the letters I H S X W T; place: the first such */
     DUNROSSEL_EXPONENT = 3,    /* k is below 0 or over 60 */
     DUNROSSEL_COEFFICIENT = 4, /* one of zw is below -2^30 or over 2^30 */
     DUNROSSEL_UNITARY = 5,     /* the matrix isn't unitary */
@@ -48,17 +49,20 @@ extern "C" {
  * Refuses 3, 4, 5. */
 uint8_t dunrossel_reduce(int64_t k, uint8_t n, const int64_t zw[8], int64_t out[10]);
 
-/* The product of the word's letters I H S X W T, reduced. out: k, n, then zw; *place: where a refusal 2 or 6 lies, else 0.
+/* The product of the word's letters, reduced. out: k, n, then zw; *place: where a refusal 2 or 6 lies, else 0.
  * Refuses 1, 2, 6. */
 uint8_t dunrossel_matrix(const uint8_t *word, size_t len, int64_t out[10], uint64_t *place);
 
-/* Writes the normal word with the matrix of the word's letters H S X W T into buf. The same matrix gives the same bytes,
- * and no word has fewer T. out: place of a refusal 2 (else 0), bytes written, T letters written.
+/* Writes the normal word with the matrix of the word's letters into buf. The same matrix gives the same bytes, and no word
+ * has fewer T; so a normal word of at most 4,096 letters is given back as it is, and an I put in anywhere changes nothing.
+ * An answer may itself have more than 4,096 letters: handed in again it is refused 1. out: place of a refusal 2 (else 0),
+ * bytes written, T letters written.
  * Refuses 1, 2, 7. */
 uint8_t dunrossel_normalise(const uint8_t *word, size_t len, uint8_t *buf, size_t room, uint64_t out[3]);
 
-/* The same without the normal word's final W letters: the matrix up to a power of omega. Refuses 1, 2, 7 (7 by the shorter
- * word). */
+/* The same without the normal word's final W letters: the matrix up to a power of omega. Handed in again, to this call or
+ * to dunrossel_normalise, such a word is given back, with an I behind it where it is empty or ends in T. Refuses 1, 2, 7
+ * (7 by the shorter word). */
 uint8_t dunrossel_phase_free(const uint8_t *word, size_t len, uint8_t *buf, size_t room, uint64_t out[3]);
 
 /* Writes the normal word of a matrix, reduced or not, into buf: at most 6k+16 bytes, k reduced, and the bytes that
@@ -94,15 +98,14 @@ size_t dunrossel_bench(const uint8_t *record, size_t len, uint8_t out[512]);
  * then a line for each statement: h q[0]; s q[0]; t q[0]; x q[0]; sdg q[0]; tdg q[0]; and in 3.0 gphase(pi/4); for W.
  * A circuit's first statement acts first, so it is the word's rightmost letter; these three lines alone are the empty word.
  *
- * Writes the circuit of the word's letters I H S X W T into buf, by h, s, t, x and gphase; I is left out. DUNROSSEL_CIRCUIT
- * bytes always do. out: place of a refusal 2 or 10 (else 0), bytes written.
+ * Writes the circuit of the word's letters into buf, by h, s, t, x and gphase; I is left out. DUNROSSEL_CIRCUIT bytes
+ * always do. out: place of a refusal 2 or 10 (else 0), bytes written.
  * Refuses 1, 2, 10, 7 in 2.0, and 1, 2, 7 in 3.0. */
 uint8_t dunrossel_qasm2_write(const uint8_t *word, size_t len, uint8_t *buf, size_t room, uint64_t out[2]);
 uint8_t dunrossel_qasm3_write(const uint8_t *word, size_t len, uint8_t *buf, size_t room, uint64_t out[2]);
 
-/* Writes the letters of a circuit of either edition into buf, all of them H S X W T, as dunrossel_normalise takes them: sdg
- * is read as SSS, tdg as TSSS. They have the circuit's own matrix, phase included, and of what was written they are the
- * letters but for I. The text may have any length; DUNROSSEL_LETTERS bytes of room always do. out: place of a refusal 9
+/* Writes the letters of a circuit of either edition into buf, a word for every call that takes one: sdg is read as SSS, tdg
+ * as TSSS. They have the circuit's own matrix, phase included, and of what was written they are the letters but for I. The text may have any length; DUNROSSEL_LETTERS bytes of room always do. out: place of a refusal 9
  * (else 0), bytes written.
  * Refuses 9, 1 (by the letters read), 7. */
 uint8_t dunrossel_qasm_read(const uint8_t *text, size_t len, uint8_t *buf, size_t room, uint64_t out[2]);

@@ -3,7 +3,7 @@
 // An entry is 32 phase + code, the phase to be added. Rows of 24, by code: 17 of what stands behind two letters. Then 3 of kinds: where
 // nothing changes, where the T comes first or behind S, X or W, and behind H. Then 4 of a syllable and one more T before a Clifford, and 1
 // of a Clifford less its axis. For each two letters, by 6 first + second, two bytes: their row and a phase, and where their row of kinds
-// begins among the kinds. Last the numbers of the bytes from H to X.
+// begins among the kinds. Last the numbers of the bytes from H to X: that of the letter, and 6 where there is none.
 pub const TABLE: [u8; 689] = [
     0,
     1,
