@@ -146,7 +146,7 @@ fn back(report: &mut Report, w: &[u8]) {
     gives(report, free, &closed(free));
 }
 
-/// Every normal word with up to `most` T and every tail, and so many random long ones.
+/// Every normal word with up to `most` T and every tail, and so many random long ones, half of which end in I.
 pub fn given_back(report: &mut Report, most: usize, long: usize) {
     let tails = tails();
     for front in (0..=most).flat_map(syllables) {
@@ -160,13 +160,19 @@ pub fn given_back(report: &mut Report, most: usize, long: usize) {
         back(report, &[start, &syllable.repeat(times), tail].concat());
     }
     let mut random = Random::new(18);
-    for _ in 0..long {
-        let mut w = vec![b'I'; LONGEST + 1];
-        while w.len() > LONGEST {
-            let many = 100 + random.below(1540);
-            w = closed(&random.normal(many));
+    (0..long).for_each(|i| back(report, &long_normal(&mut random, i % 2 == 0)));
+}
+
+/// A normal word of hundreds of letters to 4,096, with an empty tail if asked.
+fn long_normal(random: &mut Random, empty: bool) -> Vec<u8> {
+    loop {
+        let many = 100 + random.below(1540);
+        let w = random.normal(many);
+        let syllables = w.iter().rposition(|g| *g == b'T').map_or(0, |last| last + 1);
+        let whole = closed(if empty { &w[..syllables] } else { &w });
+        if whole.len() <= LONGEST {
+            return whole;
         }
-        back(report, &w);
     }
 }
 
