@@ -47,12 +47,37 @@ static void refused(writer *job, size_t len, size_t room, uint8_t number, uint64
 static void filled(writer *job, size_t len, size_t room, const char *expected)
 {
     uint64_t out[3] = {7, 7, 7};
-    size_t bytes = strlen(expected);
+    size_t bytes = strlen(expected), tees = 0;
+    for (size_t i = 0; i < bytes; i++) tees += expected[i] == 'T';
     lend();
     uint8_t refusal = job(many, len, lent, room, out);
     printf("%lu letters, room %lu: refusal=%d bytes=%d\n", (unsigned long)len, (unsigned long)room, refusal, (int)out[1]);
     check("accepted", refusal == 0 && out[0] == 0 && out[1] == bytes && memcmp(lent, expected, bytes) == 0);
+    check("T letters", out[2] == tees);
     untouched_from(bytes);
+}
+
+/* I alone, and HT over and over as a normal word: with XS it has 4,096 letters, with the I of an empty tail 4,097. */
+static void identities(writer *job)
+{
+    static char word[4098];
+    memset(many, 'I', sizeof many);
+    refused(job, MANY, sizeof lent, DUNROSSEL_LONG, 0);
+    refused(job, 4097, sizeof lent, DUNROSSEL_LONG, 0);
+    filled(job, 4096, 1, "I");
+    refused(job, 4096, 0, DUNROSSEL_ROOM, 0);
+    many[4095] = 'i';
+    refused(job, 4096, 0, DUNROSSEL_LETTER, 4095);
+    for (size_t i = 0; i < 4096; i++) word[i] = i % 2 ? 'T' : 'H';
+    memcpy(word + 4094, "XS", 3);
+    memcpy(many, word, 4096);
+    filled(job, 4096, 4096, word);
+    refused(job, 4096, 4095, DUNROSSEL_ROOM, 0);
+    memcpy(word + 4094, "HTI", 4);
+    memcpy(many, word, 4097);
+    filled(job, 4096, 4097, word);
+    refused(job, 4096, 4096, DUNROSSEL_ROOM, 0);
+    refused(job, 4097, sizeof lent, DUNROSSEL_LONG, 0); /* that answer, given back */
 }
 
 static void words(const char *what, writer *job, const char *hsh)
@@ -75,6 +100,7 @@ static void words(const char *what, writer *job, const char *hsh)
     refused(job, 3, strlen(hsh) - 1, DUNROSSEL_ROOM, 0);
     check("an empty slice", job(NULL, 0, NULL, 0, out) == DUNROSSEL_ROOM && out[0] == 0 && out[1] == 0 && out[2] == 0);
     filled(job, 0, 1, "I");
+    identities(job);
 }
 
 /* ---- job 2 */

@@ -73,6 +73,7 @@ struct State {
     length: usize,
     result: u64,
     plant: Option<Plant>,
+    planted_on: Vec<u8>,
     calls: [u64; JOBS.len()],
 }
 
@@ -83,6 +84,7 @@ thread_local! {
         length: 0,
         result: 0,
         plant: None,
+        planted_on: Vec::new(),
         calls: [0; JOBS.len()],
     });
 }
@@ -90,8 +92,14 @@ thread_local! {
 pub fn set_plant(plant: Option<Plant>) {
     STATE.with_borrow_mut(|s| {
         s.plant = plant;
+        s.planted_on.clear();
         s.calls = [0; JOBS.len()];
     })
+}
+
+/// The input of the call whose answer was spoilt.
+pub fn planted_on() -> Vec<u8> {
+    STATE.with_borrow(|s| s.planted_on.clone())
 }
 
 impl State {
@@ -108,6 +116,9 @@ impl State {
         self.library.memory()[OUT..OUT + OUT_BYTES].fill(STALE);
         self.result = self.library.call(job, args);
         let part = self.turn(job);
+        if part.is_some() {
+            self.planted_on = input.to_vec();
+        }
         let memory = self.library.memory();
         let mut refusal = self.result as u8;
         let size = std::mem::size_of::<T>();

@@ -2,7 +2,7 @@
 
 use crate::circuits::{read, write, write_both};
 use crate::exact::Matrix;
-use crate::inputs::{self, Random, JOB_2};
+use crate::inputs::{self, Random, LETTERS};
 use crate::qasm::{self, Circuit, Edition, Statement, EDITIONS, STATEMENTS};
 use crate::report::Report;
 use crate::words::Rooms;
@@ -175,7 +175,7 @@ pub fn every_byte(report: &mut Report) {
 pub fn limits(report: &mut Report) {
     let mut random = Random::new(14);
     for len in [4094, 4095, 4096, 4097, 4098, 4100] {
-        for letters in [b"HSXT".as_slice(), JOB_2, b"I", b"W", b"IIIIIIIIT"] {
+        for letters in [b"HSXT".as_slice(), LETTERS, b"I", b"W", b"IIIIIIIIT"] {
             let word = random.word(letters, len);
             write_both(report, &word, Rooms::All);
             write_both(report, &replaced(&word, len - 1, b'i'), Rooms::All);
@@ -189,7 +189,7 @@ pub fn limits(report: &mut Report) {
     }
     // 4,096 once they are cut to 16 bits.
     let many = 4096 + 65_536;
-    write_both(report, &random.word(JOB_2, many), Rooms::All);
+    write_both(report, &random.word(LETTERS, many), Rooms::All);
     write_both(report, &random.word(b"I", 1_000_000), Rooms::All);
     for edition in EDITIONS {
         for step in [&STATEMENTS[0], &STATEMENTS[5]] {
@@ -218,7 +218,7 @@ pub fn random(report: &mut Report, each: usize) {
         let len = random.below(if i % 50 == 0 { 4000 } else { 80 });
         write(report, Edition::Two, &random.word(b"HSXTI", len), Rooms::One);
         write(report, Edition::Two, &random.word(b"HSXTIHSXTIHSXTIHSXTIHSXTIHSXTIW", len), Rooms::One);
-        write(report, Edition::Three, &random.word(JOB_2, len), Rooms::One);
+        write(report, Edition::Three, &random.word(LETTERS, len), Rooms::One);
         let edition = *random.of(&EDITIONS);
         let circuit: Circuit = (0..len).map(|_| random.of(edition.statements())).collect();
         let text = edition.text(&circuit);

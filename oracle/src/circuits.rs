@@ -2,10 +2,9 @@
 
 use crate::abi::{self, Job, Written};
 use crate::exact::Matrix;
-use crate::inputs::JOB_2;
 use crate::qasm::{self, Edition, EDITIONS};
 use crate::report::Report;
-use crate::words::{fitting, refusal, rooms, Rooms, LONGEST};
+use crate::words::{fitting, refusal, rooms, without_identity, Rooms, ENOUGH, LONGEST};
 
 /// The bytes of an answer given room, or a refusal and its place.
 pub type Answered = Result<Vec<u8>, (u8, usize)>;
@@ -20,7 +19,7 @@ fn shown(bytes: &[u8]) -> String {
 
 /// The text of a word, or the writer's refusals but 7, in their order.
 pub fn text_of(edition: Edition, word: &[u8]) -> Answered {
-    if let Some(refused) = refusal(word, JOB_2) {
+    if let Some(refused) = refusal(word) {
         return Err(refused);
     }
     let phase = word.iter().position(|g| *g == b'W');
@@ -53,8 +52,8 @@ pub fn answer(of: &Answered, room: usize) -> Written {
 fn rooms_of(of: &Answered, which: Rooms, turn: usize) -> Vec<usize> {
     match (of, which) {
         (Ok(bytes), _) => rooms(which, bytes.len(), turn),
-        (Err(_), Rooms::All) => vec![376, 5000, 0],
-        (Err(_), Rooms::One) => vec![[376, 0][turn % 2]],
+        (Err(_), Rooms::All) => vec![ENOUGH, 5000, 0],
+        (Err(_), _) => vec![[ENOUGH, 0][turn % 2]],
     }
 }
 
@@ -98,8 +97,7 @@ pub fn write(report: &mut Report, edition: Edition, word: &[u8], which: Rooms) {
         report.case(write_kind(edition, expected.refusal), abi::circuit(job, word, room, &expected).map(at));
     }
     let Ok(text) = text else { return };
-    let kept: Vec<u8> = word.iter().copied().filter(|g| *g != b'I').collect();
-    if letters_of(&text).as_ref() != Ok(&kept) {
+    if letters_of(&text) != Ok(without_identity(word)) {
         report.differs("qasm", format!("{}: written and read again it is another word", shown(word)));
     }
     report.note("qasm: words written and read again", 1);

@@ -10,6 +10,7 @@ mod circuits;
 mod cliffords;
 mod differences;
 mod exact;
+mod identity_runs;
 mod inputs;
 mod integers;
 mod library;
@@ -43,6 +44,10 @@ fn every_run(report: &mut Report) {
     timed(report, "words around 4,096 letters", |r| runs::around_long(r, 4));
     timed(report, "bytes that are no letters", runs::letters);
     timed(report, "words around exponent 60", |r| runs::around_deep(r, 30));
+    timed(report, "I in listed words", identity_runs::listed);
+    timed(report, "I at every place of long words", identity_runs::every_place);
+    timed(report, "normal words given back", |r| identity_runs::given_back(r, 5, 2000));
+    timed(report, "words with I normalised twice", |r| identity_runs::twice(r, 2000));
     timed(report, "triples at the edges", runs::triple_edges);
     timed(report, "triples of up to 4 T", |r| runs::few_t(r, 4));
     timed(report, "random triples to exponent 60", |r| runs::deep(r, 60));

@@ -46,8 +46,10 @@ pub fn all(report: &mut Report) {
     );
     say(
         report,
-        "listed: I when normalising panics in the Rust, is refused 2 here",
-        given("I").is_none() && abi::normalise(b"I", 1, &Written::refused(2, 0)).is_none(),
+        "listed: I when normalising panics in the Rust, is I (the identity) here",
+        given("I").is_none()
+            && abi::normalise(b"I", 1, &word("I")).is_none()
+            && abi::phase_free(b"I", 1, &word("I")).is_none(),
     );
     say(
         report,

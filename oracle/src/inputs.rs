@@ -52,16 +52,18 @@ impl Random {
     }
 }
 
-pub const JOB_2: &[u8] = b"IHSXWT";
-pub const JOB_3: &[u8] = b"HSXWT";
+pub const LETTERS: &[u8] = b"IHSXWT";
 
-/// Every word of up to `most` letters of job 2, shorter ones first.
+/// Those that the Rust's normal form reads, for words that are to be compared with its own answer.
+pub const PLAIN: &[u8] = b"HSXWT";
+
+/// Every word of up to `most` letters, shorter ones first.
 pub fn every_word(most: usize, mut each: impl FnMut(&[u8])) {
     for len in 0..=most {
         for mut code in 0..6usize.pow(len as u32) {
             let mut word = [0u8; 16];
             for g in word[..len].iter_mut() {
-                *g = JOB_2[code % 6];
+                *g = LETTERS[code % 6];
                 code /= 6;
             }
             each(&word[..len]);
@@ -78,6 +80,12 @@ pub fn tails() -> Vec<Vec<u8>> {
         }
     }
     all
+}
+
+/// A normal word that may lack the I of an empty tail, with it.
+pub fn closed(word: &[u8]) -> Vec<u8> {
+    let open = word.last().map_or(true, |g| *g == b'T');
+    [word, if open { b"I" } else { b"" }].concat()
 }
 
 /// The syllables of every normal word with exactly t letters T.

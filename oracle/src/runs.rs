@@ -1,7 +1,7 @@
 //! Which inputs are compared. Every run is the same from one start to the next.
 
 use crate::exact::Matrix;
-use crate::inputs::{self, raised, Random, Triple, EDGES, JOB_2, JOB_3};
+use crate::inputs::{self, raised, Random, Triple, EDGES, LETTERS, PLAIN};
 use crate::report::Report;
 use crate::words::Rooms;
 use crate::{cliffords, records, rust, triples, words};
@@ -11,7 +11,7 @@ fn triple(numbers: [i64; 10]) -> Triple {
     (numbers[0], numbers[1] as u8, numbers[2..].try_into().unwrap())
 }
 
-fn word(report: &mut Report, word: &[u8], which: Rooms) -> Option<Triple> {
+pub fn word(report: &mut Report, word: &[u8], which: Rooms) -> Option<Triple> {
     words::normalise(report, word, which);
     words::matrix(report, word).map(triple)
 }
@@ -41,25 +41,25 @@ pub fn every_arm(report: &mut Report) {
     let mut random = Random::new(2);
     for front in fronts {
         for tail in inputs::tails() {
-            for letter in JOB_3 {
+            for letter in LETTERS {
                 let w = [front, &tail, &[*letter]].concat();
                 word(report, &w, Rooms::One);
-                let more = [w, random.word(JOB_3, 6)].concat();
+                let more = [w, random.word(PLAIN, 6)].concat();
                 word(report, &more, Rooms::One);
             }
         }
     }
 }
 
-/// Random words of a length in each job's letters, one of them never taking the SHT arm.
+/// Random words of a length with I and without, one of them never taking the SHT arm.
 fn random_words(report: &mut Report, random: &mut Random, len: usize, which: Rooms) {
     let free = random.word_without_sht_arm(len);
     words::normalise(report, &free, which);
-    let any = random.word(JOB_3, len);
+    let any = random.word(PLAIN, len);
     words::normalise(report, &any, which);
     let calm = random.word(b"HSXWHSXWHSXWHSXWHSXWHSXWHSXWIIT", len);
     words::matrix(report, &calm);
-    let wild = random.word(JOB_2, len);
+    let wild = random.word(LETTERS, len);
     words::matrix(report, &wild);
     words::normalise(report, &wild, which);
 }
@@ -86,28 +86,30 @@ pub fn around_long(report: &mut Report, each: usize) {
             random_words(report, &mut random, len, Rooms::All);
         }
         let cut = |pattern: &[u8]| pattern.iter().cycle().take(len).copied().collect::<Vec<u8>>();
-        for pattern in [b"THT".as_slice(), b"HT", b"SHT", b"T", b"TTTTTTTT", b"H", b"W", b"HTTSSSH", b"SHTTSSSHSSS"] {
+        for pattern in
+            [b"THT".as_slice(), b"HT", b"SHT", b"T", b"TTTTTTTT", b"H", b"W", b"I", b"TI", b"HTTSSSH", b"SHTTSSSHSSS"]
+        {
             words::normalise(report, &cut(pattern), Rooms::All);
             words::matrix(report, &cut(pattern));
         }
         let most = [b"T".as_slice(), &cut(b"HT")[1..]].concat();
         words::normalise(report, &most, Rooms::All);
         for _ in 0..4 {
-            let mut damaged = random.word(JOB_3, len);
-            damaged[random.below(len)] = *random.of(b"IAthsxw\0\n~\x80\xff");
+            let mut damaged = random.word(LETTERS, len);
+            damaged[random.below(len)] = *random.of(b"iAthsxw\0\n~\x80\xff");
             words::normalise(report, &damaged, Rooms::All);
             words::matrix(report, &damaged);
         }
     }
     for len in [5000, 65_536, 1_000_000] {
-        words::normalise(report, &random.word(JOB_3, len), Rooms::All);
+        words::normalise(report, &random.word(LETTERS, len), Rooms::All);
         words::matrix(report, &random.word(b"IHX?", len));
     }
 }
 
 /// Every byte at every place of short words, and damaged copies of longer ones.
 pub fn letters(report: &mut Report) {
-    for good in [b"H".as_slice(), b"SHTT", b"XTWHTS"] {
+    for good in [b"H".as_slice(), b"HIT", b"SHTT", b"XTWHTS"] {
         for at in 0..good.len() {
             for byte in 0..=255 {
                 let mut w = good.to_vec();
@@ -119,7 +121,7 @@ pub fn letters(report: &mut Report) {
     let mut random = Random::new(5);
     for _ in 0..20_000 {
         let len = 1 + random.below(60);
-        let mut w = random.word(JOB_3, len);
+        let mut w = random.word(LETTERS, len);
         for _ in 0..1 + random.below(3) {
             w[random.below(len)] = random.next() as u8;
         }
@@ -137,7 +139,7 @@ pub fn around_deep(report: &mut Report, each: usize) {
             let w = random.normal(n);
             words::matrix(report, &w);
             words::normalise(report, &w, Rooms::One);
-            let there = [random.word(b"HSXWT", 20), random.normal(n)].concat();
+            let there = [random.word(PLAIN, 20), random.normal(n)].concat();
             let back: Vec<u8> = there.iter().rev().flat_map(undone).copied().collect();
             words::matrix(report, &[back.as_slice(), &there].concat());
             words::matrix(report, &[there, back].concat());

@@ -2,7 +2,7 @@
 //! has the format.
 
 use crate::abi::Written;
-use crate::inputs::{self, cliffords, raised, Random, Triple, JOB_2, JOB_3};
+use crate::inputs::{self, cliffords, closed, raised, Random, Triple, LETTERS, PLAIN};
 use crate::report::Report;
 use crate::runs::triple_of;
 use crate::words::{self, fitting, less_final_w};
@@ -45,7 +45,7 @@ impl Sample {
 
     /// Jobs 3 and 5, with this much more or less room than the answer takes.
     fn normalise(&mut self, word: &[u8], more: isize) {
-        if let Some((number, place)) = words::refusal(word, JOB_3) {
+        if let Some((number, place)) = words::refusal(word) {
             for job in ['3', '5'] {
                 self.add_written(job, 20, word, &Written::refused(number, place));
             }
@@ -106,7 +106,7 @@ impl Sample {
 
 /// Document 01's cases, every arm, every letter and byte, and each limit of words.
 fn words(s: &mut Sample) {
-    for w in ["", "T", "TT", "TTTT", "HH", "HTT", "SHTT", "HSH", "XT", "WT", "HTHT", "W", "TW", "I", "TI"] {
+    for w in ["", "T", "TT", "TTTT", "HH", "HTT", "SHTT", "HSH", "XT", "WT", "HTHT", "W", "TW"] {
         for more in [-1, 0, 1, 9] {
             s.normalise(w.as_bytes(), more);
         }
@@ -116,7 +116,7 @@ fn words(s: &mut Sample) {
         for front in [b"".as_slice(), b"T", b"HT", b"TSHT"] {
             s.normalise(&[front, tail, b"T"].concat(), (i % 4) as isize - 1);
         }
-        s.word(&[tail.as_slice(), &[JOB_3[i % 5]]].concat(), 0);
+        s.word(&[tail.as_slice(), &[LETTERS[i % 6]]].concat(), 0);
     }
     for byte in 0..=255 {
         s.word(&[b'H', byte], 1);
@@ -124,8 +124,8 @@ fn words(s: &mut Sample) {
     let mut random = Random::new(11);
     for len in 0..=60 {
         for _ in 0..4 {
-            s.word(&random.word(JOB_3, len), 2);
-            s.matrix(&random.word(JOB_2, len));
+            s.word(&random.word(PLAIN, len), 2);
+            s.word(&random.word(LETTERS, len), 2);
         }
     }
     for len in [4095, 4096, 4097] {
@@ -142,6 +142,35 @@ fn words(s: &mut Sample) {
     }
 }
 
+/// I in words: short ones, before and behind bytes that are no letters, at every place of a word, the normal word of
+/// every tail given back, and each side of 4,096 letters, read and answered.
+fn identities(s: &mut Sample) {
+    for w in ["I", "II", "TI", "IT", "ITI", "HIH", "SHTIT", "i", "iI", "Ii", "HI?I", "?ITI", "TI\0"] {
+        for more in [-1, 0, 1, 9] {
+            s.normalise(w.as_bytes(), more);
+        }
+        s.matrix(w.as_bytes());
+    }
+    let word = b"SHTTXHTWSHSTTH";
+    for (at, letter) in (0..=word.len()).flat_map(|at| b"Ii".iter().map(move |letter| (at, letter))) {
+        s.word(&[&word[..at], &[*letter], b"I", &word[at..]].concat(), at as isize % 3 - 1);
+        s.word(&[&word[..at], b"I", &word[at..], &[*letter]].concat(), 0);
+    }
+    for (i, tail) in inputs::tails().iter().enumerate() {
+        for front in [b"".as_slice(), b"T", b"SHTHT"] {
+            s.normalise(&closed(&[front, tail].concat()), -((i % 7 == 0) as isize));
+            s.normalise(&[front, b"I", tail, b"I"].concat(), 0);
+        }
+    }
+    for len in [words::LONGEST, words::LONGEST + 1] {
+        s.word(&vec![b'I'; len], 0);
+    }
+    for long in [[b"HT".repeat(2047), b"XS".to_vec()].concat(), b"HT".repeat(2048), closed(&b"HT".repeat(2048))] {
+        s.normalise(&long, 0);
+        s.normalise(&long, -1);
+    }
+}
+
 /// Every entry of the reader's table that a word can reach: each Clifford behind an even number of letters, then each
 /// letter alone, each two letters, and behind each syllable those that bring a T to it.
 fn pairs(s: &mut Sample) {
@@ -149,8 +178,8 @@ fn pairs(s: &mut Sample) {
         for front in [b"".as_slice(), b"T", b"HT", b"SHT"] {
             let even = vec![b'W'; (front.len() + tail.len()) % 2];
             let start = [front, tail.as_slice(), &even].concat();
-            for first in JOB_3 {
-                let seconds = JOB_3.iter().map(|second| vec![*first, *second]);
+            for first in LETTERS {
+                let seconds = LETTERS.iter().map(|second| vec![*first, *second]);
                 for last in seconds.chain([vec![*first]]) {
                     if front.is_empty() || last.contains(&b'T') {
                         s.normalise(&[start.as_slice(), &last].concat(), 0);
@@ -226,6 +255,7 @@ fn all_cliffords(s: &mut Sample) {
 pub fn write(folder: &str) -> ExitCode {
     let mut s = Sample::default();
     words(&mut s);
+    identities(&mut s);
     pairs(&mut s);
     all_triples(&mut s);
     all_cliffords(&mut s);

@@ -2,7 +2,7 @@
 
 use crate::circuit_runs::{circuits, deleted, doubled, mixed_heads, replaced};
 use crate::circuits::{answer, letters_of, text_of, Answered};
-use crate::inputs::{every_word, Random, JOB_2};
+use crate::inputs::{every_word, Random, LETTERS};
 use crate::qasm::{Circuit, Edition, EDITIONS, STATEMENTS};
 use crate::sample::Sample;
 
@@ -38,7 +38,7 @@ fn words(s: &mut Sample) {
     let mut random = Random::new(16);
     for len in 3..=40 {
         write(s, &random.word(b"HSXTI", len), len as isize % 4 - 1);
-        write(s, &random.word(JOB_2, len), len as isize % 4 - 1);
+        write(s, &random.word(LETTERS, len), len as isize % 4 - 1);
     }
     for len in [4096, 4097] {
         let word = [b"TH".as_slice(), &vec![b'I'; len - 4], b"XS"].concat();

@@ -15,7 +15,7 @@ mod plain;
 mod rust;
 mod speed_circuits;
 
-use inputs::{Random, Triple, JOB_2, JOB_3};
+use inputs::{Random, Triple, LETTERS, PLAIN};
 use library::c;
 use rsgridsynth::normal_form::NormalForm;
 use rsgridsynth::synthesis_of_clifford_t::decompose_domega_unitary;
@@ -195,7 +195,7 @@ fn main() {
     // Few short words, taken again and again, teach the processor their branches: both are timed.
     let sizes = [(20, 4000, 2, ""), (20, 400, 20, ", 400 words only"), (200, 400, 3, ""), (4096, 20, 3, "")];
     for (len, n, turns, which) in sizes {
-        let inputs = words(&mut random, JOB_3, len, n);
+        let inputs = words(&mut random, PLAIN, len, n);
         let name = format!("normalise, {len} random letters{which}");
         race(
             name,
@@ -228,8 +228,8 @@ fn main() {
     }
     let calm: Vec<u8> = [b"HSXW".repeat(16), b"T".to_vec()].concat();
     for (letters, name, len, n) in [
-        (JOB_2, "20 random letters", 20, 400),
-        (JOB_2, "200 random letters", 200, 100),
+        (LETTERS, "20 random letters", 20, 400),
+        (LETTERS, "200 random letters", 200, 100),
         (&calm, "4096 letters, few T", 4096, 5),
     ] {
         let inputs = words(&mut random, letters, len, n);

@@ -6,8 +6,11 @@ mod exact;
 
 use exact::Matrix;
 
-/// The letters by their numbers; I is no letter.
+/// The letters by their numbers; a byte that is none has the number behind them.
 const LETTERS: &[u8] = b"HSXWTI";
+
+/// The bytes whose numbers stand in the table.
+const NUMBERED: std::ops::RangeInclusive<u8> = b'H'..=b'X';
 
 /// Two letters for each of the 17 rows.
 const ROWS: [&[u8; 2]; 17] = [
@@ -85,8 +88,11 @@ fn main() {
     }
     table.extend((0..24u8).map(|code| entry(q.behind(AXES[code as usize / 8], q.matrix(code)).expect("an axis"))));
     table.extend(pairs.iter().flat_map(|p| [row(&q, p), 24 * change(&q, p)]));
-    table.extend((b'H'..=b'X').map(|b| LETTERS[..5].iter().position(|l| *l == b).unwrap_or(5) as u8));
-    println!("pub const TABLE: [u8; {}] = [", table.len());
+    println!("pub const TABLE: [u8; {}] = [", table.len() + NUMBERED.count());
     table.iter().for_each(|x| println!("    {x},"));
+    NUMBERED.for_each(|b| match LETTERS.iter().position(|l| *l == b) {
+        Some(number) => println!("    {number}, // {}", b as char),
+        None => println!("    {},", LETTERS.len()),
+    });
     println!("];");
 }

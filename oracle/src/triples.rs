@@ -4,7 +4,7 @@ use crate::abi::{self, Written};
 use crate::exact::{is_normal, is_unitary, Matrix};
 use crate::inputs::Triple;
 use crate::report::Report;
-use crate::words::{fitting, Rooms, DEEPEST};
+use crate::words::{fitting, Rooms, DEEPEST, ENOUGH};
 use crate::{rust, view};
 
 const LARGEST: i64 = 1 << 30;
@@ -118,7 +118,7 @@ fn synthesise(report: &mut Report, triple: &Triple, reduced: &Result<[i64; 10], 
                 _ => "job 4 synthesise: refused 4 or 5, the Rust makes 1,000 steps without an end",
             };
             report.first(kind, || format!("k = {k}, n = {n}, {zw:?}"));
-            let room = if which == Rooms::All { 0 } else { 376 };
+            let room = if which == Rooms::All { 0 } else { ENOUGH };
             let answer = abi::synthesise(*k, *n, zw, room, &Written::refused(*number, 0));
             return report.case(kind, answer.map(|d| at(room, d)));
         }
@@ -132,8 +132,8 @@ fn synthesise(report: &mut Report, triple: &Triple, reduced: &Result<[i64; 10], 
         kind
     };
     let rooms = match which {
-        Rooms::All => vec![word.len(), 376, word.len() + 1, word.len() - 1, word.len() / 2, 0],
-        Rooms::One => vec![[word.len(), 376][word.len() % 2]],
+        Rooms::All => vec![word.len(), ENOUGH, word.len() + 1, word.len() - 1, word.len() / 2, 0],
+        _ => vec![[word.len(), ENOUGH][word.len() % 2]],
     };
     for room in rooms {
         let expected = fitting(&word, room);

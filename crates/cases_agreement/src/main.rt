@@ -60,6 +60,30 @@ fn long(label: &[u8], word: &[u8]) {
     text(b"\n");
 }
 
+fn identities() {
+    agree(b"I");
+    agree(b"II");
+    agree(b"TI");
+    agree(b"ITI");
+    agree(b"HIH");
+    agree(b"SHTIT");
+    agree(b"XTHSHT");
+    agree(b"IXTHSHT");
+    agree(b"XITHSHT");
+    agree(b"XTIHSHT");
+    agree(b"XTHISHT");
+    agree(b"XTHSIHT");
+    agree(b"XTHSHIT");
+    agree(b"XTHSHTI");
+    agree(b"IXITIHISIHITI");
+    agree(b"i");
+    agree(b"TI?");
+    let most = [b'I'; 4096];
+    long(b"I 4096 times", &most);
+    let more = [b'I'; 4097];
+    long(b"I 4097 times", &more);
+}
+
 fn main() {
     agree(b"");
     agree(b"T");
@@ -67,8 +91,8 @@ fn main() {
     agree(b"HSH");
     agree(b"XT");
     agree(b"HTHT");
-    agree(b"I");
     agree(b"HT?");
+    identities();
     rooms();
     let most = [b'W'; 4096];
     long(b"W 4096 times", &most);

@@ -73,15 +73,56 @@ fn shorter() {
     job5(b"XT", 2);
     job5(b"WWWWWWWW", 1);
     job5(b"WWWWWWWW", 0);
+}
+
+fn identities() {
+    job3(b"I", 16);
+    job3(b"I", 1);
+    job3(b"I", 0);
+    job3(b"II", 16);
+    job3(b"IT", 16);
+    job3(b"ITI", 16);
+    job3(b"HIH", 16);
+    job3(b"SHTIT", 16);
+    job3(b"HTI", 16);
+    job3(b"HTIHT", 16);
+    job3(b"IXTHS", 16);
+    job3(b"XITHS", 16);
+    job3(b"XTIHS", 16);
+    job3(b"XTHIS", 16);
+    job3(b"XTHSI", 16);
     job5(b"I", 16);
+    job5(b"I", 0);
+    job5(b"TIW", 16);
+    job5(b"WI", 16);
+    job5(b"XIT", 3);
+    job5(b"XIT", 2);
+}
+
+// Normal words, which are given back as they are, and words of job 5, which may lack the I of an empty tail.
+fn given_back() {
+    job3(b"TI", 2);
+    job3(b"TI", 1);
+    job3(b"TXSWWWWWWW", 10);
+    job3(b"TXSWWWWWWW", 9);
+    job3(b"THTSHTI", 7);
+    job3(b"SHTSHXSSSW", 10);
+    job5(b"SHTSHXSSSW", 9);
+    job3(b"SHTSHXSSS", 9);
+    job5(b"TW", 16);
+    job3(b"T", 16);
+    job5(b"T", 16);
 }
 
 fn places() {
-    job3(b"I", 16);
     job3(b"hHT", 16);
-    job3(b"HTI", 16);
+    job3(b"i", 16);
+    job3(b"iI", 16);
+    job3(b"Ii", 16);
     job3(b"HTxyz", 0);
     job3(b"HT?IHT", 16);
+    job3(b"HTI?HT", 16);
+    job5(b"HTI?HT", 0);
 }
 
 fn rooms() {
@@ -212,10 +253,18 @@ fn only_tees() {
     long_word(b"4096 T", &word);
 }
 
+fn only_identities() {
+    let word = [b'I'; 4096];
+    long_word(b"4096 I", &word);
+    let word = [b'I'; 4097];
+    long_word(b"4097 I", &word);
+}
+
 fn long_words() {
     most_syllables();
     up_and_back();
     only_tees();
+    only_identities();
 }
 
 fn clifford_of(q: Clifford) {
@@ -304,6 +353,8 @@ fn inverses() {
 fn main() {
     document();
     shorter();
+    identities();
+    given_back();
     places();
     rooms();
     alphabet();
