@@ -17,7 +17,7 @@ use Rattle.normal_form.specs.Meaning.{closedIf, closed}
 
 -- ---- an I more is the same matrix, the same T letters and at most one letter
 closed-if : (due : Bool) (u : List Letter) → u ≈ closedIf due u
-closed-if true [] = by-test [] (I ∷ []) tt
+closed-if true [] = by-test [] (closedIf true []) tt
 closed-if false [] = by-refl []
 closed-if due (l ∷ u) = under (l ∷ []) (closed-if (eqb (tee l) 1) u)
 

@@ -29,7 +29,7 @@ same-length : tie.Need-same-length Inv-loop μ-loop
 same-length c = search needs
 
 returns : tie.Need-returns Inv-loop μ-loop
-returns c = first-outside (c .before .before .before .before .loop .inv) (omega arith) (c .before .number .ensures) (c .if1 .taken)
+returns c = first-outside (c .before .before .before .before .loop .inv) (omega arith) (c .before .number .ensures) (omega arith)
 
 add-number : tie.Need-add-number Inv-loop μ-loop
 add-number c = omega arith
@@ -52,7 +52,7 @@ returns-2 c =
     let the-turn = the-first .before .before .before in
     second-outside (the-turn .loop .inv) (search needs)
     (the-first .number .ensures) (search needs)
-    (c .before .number2 .ensures) (c .if2 .taken)
+    (c .before .number2 .ensures) (omega arith)
 
 append-gates-requires : tie.Need-append-gates-requires Inv-loop μ-loop
 append-gates-requires c κs =
