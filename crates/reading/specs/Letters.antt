@@ -24,19 +24,18 @@ module _ (b n : ℕ) (e : n ≡ numberOf b) where
   known t f = e ∙ ap (λ x. cond x (letterNumber (letterOf b)) 6) f
 
   module _ (h : n ≤ 5) where
-    pub numbered-in : IsLetter b
-    numbered-in = go (eqb (byte (letterOf b)) b) refl
+    told : (byte (letterOf b) ≡ b) × (n ≡ letterNumber (letterOf b))
+    told = go (eqb (byte (letterOf b)) b) refl
       where
-        go : (t : Bool) → eqb (byte (letterOf b)) b ≡ t → IsLetter b
-        go true f = is-letter (eqb-true (byte (letterOf b)) b f)
+        go : (t : Bool) → eqb (byte (letterOf b)) b ≡ t → (byte (letterOf b) ≡ b) × (n ≡ letterNumber (letterOf b))
+        go true f = (eqb-true (byte (letterOf b)) b f, known true f)
         go false f = absurd (omega (arith, known false f))
 
+    pub numbered-in : IsLetter b
+    numbered-in = is-letter (told .0)
+
     pub numbered-at : letterAt n ≡ letterOf b
-    numbered-at = go (eqb (byte (letterOf b)) b) refl
-      where
-        go : (t : Bool) → eqb (byte (letterOf b)) b ≡ t → letterAt n ≡ letterOf b
-        go true f = ap letterAt (known true f) ∙ letterAt-is (letterOf b)
-        go false f = absurd (omega (arith, known false f))
+    numbered-at = ap letterAt (told .1) ∙ letterAt-is (letterOf b)
 
   pub numbered-out : 5 < n → IsLetter b → ⊥
   numbered-out h l = go (eqb (byte (letterOf b)) b) refl
