@@ -1,6 +1,6 @@
 -- Answers of jobs 3 and 5 fed back: a normal word is given back as it is, so normalising twice is normalising once; a phase-free word is given back
 -- closed by an I where its tail is empty. Assumes nothing.
-use mathlib.Core.Path.{_≡_, refl, sym, _∙_, ap, ap₂, subst}
+use mathlib.Core.Path.{_≡_, sym, _∙_, ap, ap₂, subst}
 use mathlib.Core.List.{List}
 use Prim.Native.Nat.{ℕ, _≤_}
 use native.Mathlib.Omega.{arith}

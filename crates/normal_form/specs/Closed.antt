@@ -8,7 +8,7 @@ use lib.Dec.{eqb}
 use lib.ListN.{length}
 use Rattle.exact.specs.Meaning.Matrix.{Same}
 use Rattle.exact.specs.Meaning.Word.{Letter, I, H, S, X, W, T′, word, tee, tees}
-use Rattle.exact.specs.Meaning.Normal.{Syllable, HT, SHT, Front, nothing, onlyH, onlySH, Tail, Shape, Fits, Normal, times, frontWord, tailWord, orI}
+use Rattle.exact.specs.Meaning.Normal.{Syllable, HT, SHT, Front, nothing, onlyH, onlySH, Tail, Shape, Normal, times, frontWord, tailWord, orI}
 use Rattle.exact.specs.Meaning.Normal.{after, leading, spell, lessFinalW, PhaseFree}
 use Rattle.exact.specs.Unique.Tails.{tees-append}
 use Rattle.clifford.specs.Words.{_≈_, by-test, by-refl, under}

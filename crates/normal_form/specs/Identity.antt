@@ -1,7 +1,7 @@
 -- An I put in at any place of a word changes no outcome of jobs 3 and 5, as long as the word is not too long with it. Assumes nothing.
 use mathlib.Core.Path.{_≡_, refl}
 use mathlib.Core.List.{List, [], _∷_, _++_}
-use Prim.Native.Nat.{ℕ, _+_, _≤_}
+use Prim.Native.Nat.{ℕ, _≤_}
 use native.Mathlib.Omega.{arith}
 use lib.ListN.{length, length-append}
 use Rattle.exact.specs.Meaning.Matrix.{Same}

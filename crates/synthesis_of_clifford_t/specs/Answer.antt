@@ -10,8 +10,8 @@ use lib.Seq.{take-at}
 use mir.Facts.{toZ-ofZ}
 use mir.Syntax.{w64}
 use mir.Val.{SFits}
-use Rattle.exact.specs.Meaning.Matrix.{Matrix, Same}
-use Rattle.exact.specs.Meaning.Word.{Letter, word, bytes, Spelled}
+use Rattle.exact.specs.Meaning.Matrix.{Matrix}
+use Rattle.exact.specs.Meaning.Word.{Letter, bytes, Spelled}
 use Rattle.exact.specs.Meaning.Normal.{NormalOf}
 use Rattle.exact.specs.Meaning.Triple.{Triple, entries}
 use Rattle.exact.specs.Meaning.Limits.{deepest}
