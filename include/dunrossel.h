@@ -105,8 +105,8 @@ uint8_t dunrossel_qasm2_write(const uint8_t *word, size_t len, uint8_t *buf, siz
 uint8_t dunrossel_qasm3_write(const uint8_t *word, size_t len, uint8_t *buf, size_t room, uint64_t out[2]);
 
 /* Writes the letters of a circuit of either edition into buf, a word for every call that takes one: sdg is read as SSS, tdg
- * as TSSS. They have the circuit's own matrix, phase included, and of what was written they are the letters but for I. The text may have any length; DUNROSSEL_LETTERS bytes of room always do. out: place of a refusal 9
- * (else 0), bytes written.
+ * as TSSS. They have the circuit's own matrix, phase included, and of what was written they are the letters but for I. The
+ * text may have any length; DUNROSSEL_LETTERS bytes of room always do. out: place of a refusal 9 (else 0), bytes written.
  * Refuses 9, 1 (by the letters read), 7. */
 uint8_t dunrossel_qasm_read(const uint8_t *text, size_t len, uint8_t *buf, size_t room, uint64_t out[2]);
 
