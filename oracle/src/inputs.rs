@@ -57,6 +57,10 @@ pub const LETTERS: &[u8] = b"IHSXWT";
 /// Those that the Rust's normal form reads, for words that are to be compared with its own answer.
 pub const PLAIN: &[u8] = b"HSXWT";
 
+pub fn without_identity(word: &[u8]) -> Vec<u8> {
+    word.iter().copied().filter(|g| *g != b'I').collect()
+}
+
 /// Every word of up to `most` letters, shorter ones first.
 pub fn every_word(most: usize, mut each: impl FnMut(&[u8])) {
     for len in 0..=most {

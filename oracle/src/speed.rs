@@ -189,8 +189,7 @@ fn divisible() -> Vec<Triple> {
 
 /// The Rust's normal form panics on I, so it is handed the word without.
 fn race_normal(name: String, len: usize, words: Vec<Vec<u8>>, turns: usize, lent: &Lent) {
-    let without = |w: &Vec<u8>| w.iter().copied().filter(|g| *g != b'I').collect();
-    let inputs: Vec<(Vec<u8>, Vec<u8>)> = words.into_iter().map(|w| (w.clone(), without(&w))).collect();
+    let inputs: Vec<_> = words.into_iter().map(|w| (w.clone(), inputs::without_identity(&w))).collect();
     race(
         name,
         len as f64,

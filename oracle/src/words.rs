@@ -2,7 +2,7 @@
 
 use crate::abi::{self, Written};
 use crate::exact::{is_normal, word_within, Matrix};
-use crate::inputs::LETTERS;
+use crate::inputs::{without_identity, LETTERS};
 use crate::report::Report;
 use crate::rust;
 use std::str::from_utf8;
@@ -68,10 +68,6 @@ impl Normal {
         };
         [job_3, "job 5 phase-free: the normal word less its final W"]
     }
-}
-
-pub fn without_identity(word: &[u8]) -> Vec<u8> {
-    word.iter().copied().filter(|g| *g != b'I').collect()
 }
 
 /// Whether a word has an I; the Rust, given it, must panic.
