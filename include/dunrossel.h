@@ -66,7 +66,7 @@ uint8_t dunrossel_normalise(const uint8_t *word, size_t len, uint8_t *buf, size_
 uint8_t dunrossel_phase_free(const uint8_t *word, size_t len, uint8_t *buf, size_t room, uint64_t out[3]);
 
 /* Writes the normal word of a matrix, reduced or not, into buf: at most 6k+16 bytes, k reduced, and the bytes that
- * dunrossel_normalise gives for any word with this matrix. out: 0, bytes written, T letters written.
+ * dunrossel_normalise gives for any word with this matrix, this one too. out: 0, bytes written, T letters written.
  * Refuses 3, 4, 5, 7. */
 uint8_t dunrossel_synthesise(int64_t k, uint8_t n, const int64_t zw[8], uint8_t *buf, size_t room, uint64_t out[3]);
 

@@ -1,20 +1,33 @@
--- Answers fed back to the exports: dunrossel_normalise gives a normal word back as it is, and what it wrote once more; what dunrossel_phase_free
--- wrote comes back from both closed by an I where its tail is empty. Assumes nothing.
-use mathlib.Core.Path.{_≡_, sym, _∙_, ap, subst}
+-- Answers fed back, over the exports: dunrossel_normalise gives a normal word back as it is, what it wrote once more, and whatever
+-- dunrossel_synthesise wrote; what dunrossel_phase_free wrote comes back closed by an I where its tail is empty. Assumes nothing.
+use mathlib.Core.Path.{_≡_, sym, _∙_, ap, ap₂, subst}
 use mathlib.Core.List.{List}
 use Prim.Native.Nat.{ℕ, _≤_}
 use native.Mathlib.Omega.{arith}
-use lib.ListN.{length}
+use lib.IntN.{ℤ}
+use lib.ListN.{length, take}
 use lib.Seq.{length-take-le}
 use Rattle.exact.specs.Meaning.Word.{Letter, bytes}
-use Rattle.exact.specs.Meaning.Normal.{Normal, PhaseFree}
+use Rattle.exact.specs.Meaning.Normal.{Normal, NormalOf, PhaseFree}
 use Rattle.exact.specs.Meaning.Limits.{longest, Accepted}
-use Rattle.exact.specs.Meaning.Lent.{over}
-use Rattle.normal_form.specs.Meaning.{Normalises, Shortens, closed}
+use Rattle.exact.specs.Meaning.Lent as Lent
+use Rattle.exact.specs.Meaning.Lent.{Lent, lent, over, untouched}
+use Rattle.exact.specs.Outcomes.Ladder.{accepted}
+use Rattle.exact.specs.Outcomes.Lent.{handed-same, bytes-same}
+use Rattle.ring.specs.declared.ZOmega.{ZOmega}
+use Rattle.normal_form.specs.declared.Written.{Written}
+use Rattle.normal_form.specs.Meaning.{Normalises, Shortens, NormaliseOutcome, closed}
 use Rattle.normal_form.specs.Again.{ComesOut, normal-again, normalise-twice, phase-free-again, phase-free-again-5}
-use Rattle.dunrossel.specs.Meaning.Exports.{Writes}
+use Rattle.synthesis_of_clifford_t.specs.declared.Synthesis.{Synthesis}
+use Rattle.synthesis_of_clifford_t.specs.Meaning as Job4
+use Rattle.synthesis_of_clifford_t.specs.Meaning.{SynthesiseOutcome}
+use Rattle.synthesis_of_clifford_t.specs.Enough.{bytes-there, bytes-few}
+use Rattle.handed.specs.Meaning.{zOf, wOf}
+use Rattle.dunrossel.specs.Meaning.Exports.{Writes, Synthesises}
+use Rattle.agreement.specs.Meaning.Agree.{handedOn}
 use Rattle.agreement.specs.Meaning.Exports.{Wrote, wrote, seen}
-use Rattle.agreement.specs.Calls.{ofNormalised}
+use Rattle.agreement.specs.Calls.{ofNormalised, ofSynthesised}
+use Rattle.agreement.specs.Jobs.{written}
 use Rattle.agreement.specs.Agree.{first-there}
 
 -- what comes out of a job comes out of its export: refusal 0; place 0, the length and the T letters; the bytes, and those beyond as they were
@@ -33,16 +46,59 @@ module _ {p v : List Letter} (f : PhaseFree p v) (l : length p ≤ longest) (old
   pub exports-phase-free-again-5 : Writes Shortens (bytes p) old r → r ≡ wrote (closed p) old
   exports-phase-free-again-5 = exports-come-out Shortens p (closed p) (phase-free-again-5 f l) old k r
 
+-- ---- what job 4 wrote: never too long to be handed to job 3, which gives it back with the same counts
+module _ (k : ℤ) (n : ℕ) (z w : ZOmega) (old : List ℕ) (r : Synthesis) (new : List ℕ) (o : SynthesiseOutcome k n z w old r new)
+    (e : r .refusal ≡ Accepted) where
+  answer-of : Lent.Writes bytes Job4.counts (NormalOf (Job4.asked k n z w old)) old (lent r new)
+  answer-of =
+      accepted (untouched Job4.refused old) (Lent.Writes bytes Job4.counts (NormalOf (Job4.asked k n z w old)) old)
+      (λ (x : Lent Synthesis). x .handed .refusal ≡ Accepted) (Job4.refusals k n z w old)
+      ((λ p h. omega arith), ((λ p h. omega arith), ((λ p h. omega arith), ((λ p h. omega arith), tt)))) (lent r new) e o
+
+  bytes-written : take (r .bytes) new ≡ bytes (answer-of .v)
+  bytes-written =
+      ap₂ take (ap (λ (x : Synthesis). x .bytes) (handed-same (answer-of .is))) (bytes-same (answer-of .is)) ∙ written (answer-of .v) old
+
+  pub synthesised-again : (old′ : List ℕ) → r .bytes ≤ length old′ → (r′ : Written) (new′ : List ℕ) → NormaliseOutcome (take (r .bytes) new) old′ r′ new′
+      → lent r′ new′ ≡ handedOn (lent r (over (take (r .bytes) new) old′))
+  synthesised-again old′ l r′ new′ o′ =
+      normal-again (answer-of .answer .normal) (omega (arith, size, bytes-few k n z w old r new o)) old′ (omega (arith, size)) r′ new′
+      (subst (λ (t : List ℕ). NormaliseOutcome t old′ r′ new′) bytes-written o′)
+      ∙ ap₂ (λ (x : Synthesis) (t : List ℕ). handedOn (lent x (over t old′))) (sym (handed-same (answer-of .is))) (sym bytes-written)
+    where
+      size : r .bytes ≡ length (answer-of .v)
+      size = ap (λ (x : Synthesis). x .bytes) (handed-same (answer-of .is))
+
 -- ---- twice
 -- the bytes that a call wrote
 abbrev pub textOf : Wrote → List ℕ
 textOf r = seen r .1 .1
 
--- where both fit, the second call leaves what the first did
+-- handed to dunrossel_normalise, which has room for them, they are left again, and so are the counts
+abbrev pub GivenBack : Wrote → Type 0
+GivenBack r =
+    (old : List ℕ) → length (textOf r) ≤ length old → (r′ : Wrote) → Writes Normalises (textOf r) old r′
+    → r′ ≡ (r .0, (r .1 .0, over (textOf r) old))
+
+pub exports-synthesised-again : (k : ℤ) (n : ℕ) (zw : List ℤ) (old : List ℕ) (r : Wrote) → Synthesises k n zw old r → r .0 ≡ Accepted → GivenBack r
+exports-synthesised-again k n zw old r x = subst (λ (y : Wrote). y .0 ≡ Accepted → GivenBack y) (sym (x .is)) of-job
+  where
+    o : SynthesiseOutcome k n (zOf zw) (wOf zw) old (x .job .handed) (x .job .buffer)
+    o = x .outcome
+
+    size : length (textOf (ofSynthesised (x .job))) ≡ x .job .handed .bytes
+    size = length-take-le (x .job .handed .bytes) (x .job .buffer) (bytes-there k n (zOf zw) (wOf zw) old (x .job .handed) (x .job .buffer) o)
+
+    of-job : x .job .handed .refusal ≡ Accepted → GivenBack (ofSynthesised (x .job))
+    of-job e old′ l r′ y =
+        y .is
+        ∙ ap ofNormalised
+        (synthesised-again k n (zOf zw) (wOf zw) old (x .job .handed) (x .job .buffer) o e old′ (omega (arith, size)) (y .job .handed) (y .job .buffer)
+        (y .outcome))
+
+-- what dunrossel_normalise wrote may be too long for it
 abbrev pub Twice : Wrote → Type 0
-Twice r =
-    r .0 ≡ Accepted → length (textOf r) ≤ longest → (old : List ℕ) → length (textOf r) ≤ length old → (r′ : Wrote)
-    → Writes Normalises (textOf r) old r′ → r′ ≡ (r .0, (r .1 .0, over (textOf r) old))
+Twice r = r .0 ≡ Accepted → length (textOf r) ≤ longest → GivenBack r
 
 pub exports-normalise-twice : (w old : List ℕ) (r : Wrote) → Writes Normalises w old r → Twice r
 exports-normalise-twice w old r x = subst Twice (sym (x .is)) of-job

@@ -7,23 +7,18 @@ use native.Mathlib.Omega.{arith}
 use lib.IntN.{pos}
 use lib.ListN.{length, take}
 use Rattle.exact.specs.Meaning.Word.{Letter, bytes, Spelled}
-use Rattle.exact.specs.Meaning.Normal.{NormalOf}
-use Rattle.exact.specs.Meaning.Triple.{entries}
 use Rattle.exact.specs.Meaning.Limits.{enough}
-use Rattle.exact.specs.Meaning.Outcome.{none, _then_, _also_, HandsOn, Decides}
+use Rattle.exact.specs.Meaning.Outcome.{none, _then_, HandsOn, Decides}
 use Rattle.exact.specs.Meaning.Lent.{Lent, lent, over, untouched}
-use Rattle.exact.specs.Meaning.Refusals.{checks, room}
 use Rattle.exact.specs.Cases.Letters.{bytes-length}
 use Rattle.exact.specs.Outcomes.Ladder.{answered, always}
 use Rattle.exact.specs.Outcomes.Lent.{written-there}
-use Rattle.ring.specs.Meaning.{quad}
 use Rattle.unitary.specs.declared.FromGates.{FromGates}
-use Rattle.unitary.specs.Meaning.{triple}
 use Rattle.normal_form.specs.declared.Written.{Written}
 use Rattle.normal_form.specs.Meaning as Job3
 use Rattle.normal_form.specs.Meaning.{Normalises, NormaliseOutcome, wordRefusals}
 use Rattle.synthesis_of_clifford_t.specs.declared.Synthesis.{Synthesis}
-use Rattle.synthesis_of_clifford_t.specs.Meaning as Job4
+use Rattle.synthesis_of_clifford_t.specs.Enough.{bytes-there}
 use Rattle.agreement.specs.declared.Agreement.{Agreement}
 use Rattle.agreement.specs.Meaning.Demand3.{Within, Agreed}
 use Rattle.agreement.specs.Meaning.Agree.{earlier, handedOn, Job4Of, Second, AgreeOutcome}
@@ -76,10 +71,7 @@ first-there bs old r new =
     (wordRefusals Normalises bs old) (lent r new)
 
 job4-there : (m : FromGates) (old : List ℕ) (j : Lent Synthesis) → Job4Of m old j → j .handed .bytes ≤ length (j .buffer)
-job4-there m old =
-    let asked = NormalOf (entries (triple (m .matrix))) in
-    written-there bytes Job4.counts asked old Job4.refused (λ x. x .bytes) (λ n p. refl) (λ v. sym (bytes-length v))
-    (checks (pos (m .matrix .k)) (quad (m .matrix .z)) (quad (m .matrix .w)) also (room bytes asked old then none))
+job4-there m old j = bytes-there (pos (m .matrix .k)) (m .matrix .n) (m .matrix .z) (m .matrix .w) old (j .handed) (j .buffer)
 
 pub second-there : (m : FromGates) (old : List ℕ) (r : Written) (new : List ℕ) → Second m old r new → r .bytes ≤ length new
 second-there m old r new =

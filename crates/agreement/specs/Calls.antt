@@ -21,7 +21,7 @@ use Rattle.agreement.specs.Jobs.{ways-agree, one-word, written}
 abbrev pub ofNormalised : Lent Written → Wrote
 ofNormalised j = (j .handed .refusal, (counts (j .handed), j .buffer))
 
-abbrev ofSynthesised : Lent Synthesis → Wrote
+abbrev pub ofSynthesised : Lent Synthesis → Wrote
 ofSynthesised j = (j .handed .refusal, (countsOf (j .handed), j .buffer))
 
 module _ {u : List Letter} (w : Within u) {old₁ old₂ : List ℕ} {first : Wrote} {matrix : Made} {second : Wrote}

@@ -6,32 +6,27 @@ use Prim.Native.Nat.{ℕ, _<_, _≤_, _^_}
 use native.Mathlib.Omega.{arith}
 use lib.IntN.{ℤ}
 use lib.ListN.{length, take, drop, length-append}
-use lib.Seq.{take-at, length-take-le}
+use lib.Seq.{length-take-le}
 use lib.Signed.{mag}
 use mir.Syntax.{w64}
-use Rattle.exact.specs.Meaning.Word.{Letter, tees, bytes}
+use Rattle.exact.specs.Meaning.Word.{tees, bytes}
 use Rattle.exact.specs.Meaning.Normal.{NormalOf}
-use Rattle.exact.specs.Meaning.Triple.{entries}
 use Rattle.exact.specs.Meaning.Limits.{enough, Accepted}
-use Rattle.exact.specs.Meaning.Outcome.{Rung, Outcome, none, _then_, _also_}
+use Rattle.exact.specs.Meaning.Outcome.{Rung, Outcome, none, _then_}
 use Rattle.exact.specs.Meaning.Lent.{Lent, lent, over, untouched, Writes}
-use Rattle.exact.specs.Meaning.Refusals.{handedIn, checks, TooMany, room, malformed}
+use Rattle.exact.specs.Meaning.Refusals.{checks, TooMany, room, malformed}
 use Rattle.exact.specs.Meaning.Record.{Numbers, answerText}
 use Rattle.exact.specs.Cases.Letters.{bytes-length}
 use Rattle.exact.specs.Whole.Machine.{held}
-use Rattle.exact.specs.Matrices.Same.{Same-sym, Same-trans}
-use Rattle.exact.specs.Matrices.Least.{reduce, reduce-reduces}
 use Rattle.exact.specs.Outcomes.Ladder.{Passed, answered, always, carry}
 use Rattle.exact.specs.Outcomes.Checked.{Taken, checks-taken}
-use Rattle.exact.specs.Outcomes.Lent.{written-there}
+use Rattle.exact.specs.Outcomes.Lent.{text-there}
 use Rattle.ring.specs.declared.ZOmega.{ZOmega}
 use Rattle.unitary.specs.Triples.{number}
-use Rattle.unitary.specs.Checks.{exponent-size}
 use Rattle.synthesis_of_clifford_t.specs.declared.Synthesis.{Synthesis}
 use Rattle.synthesis_of_clifford_t.specs.Meaning as Job4
 use Rattle.synthesis_of_clifford_t.specs.Meaning.{SynthesiseOutcome}
-use Rattle.steps.specs.Synthesised.{reduce-ready}
-use Rattle.steps.specs.Counts.{answer-enough}
+use Rattle.synthesis_of_clifford_t.specs.Enough.{answer-short, bytes-there, bytes-few}
 use Rattle.record.specs.declared.Record.{Record}
 use Rattle.record.specs.Meaning.{numbers, ReadOutcome, WriteOutcome}
 use Rattle.dunrossel.specs.Meaning.Bench.{printed, refused, wordText, wordSize, asked, NumbersOutcome, OfRecord, BenchOutcome}
@@ -84,16 +79,9 @@ job4-of r old j new f o =
 
 -- ---- 376 bytes are enough
 module _ (x : Numbers) (taken : Taken (x .k) (x .z) (x .w)) where
-  short : (v : List Letter) → NormalOf (asked x) v → length v ≤ enough
-  short v n =
-      let t = handedIn (x .k) (x .n) (x .z) (x .w) in
-      let r = reduce-reduces t in
-      answer-enough (reduce t) v (reduce-ready t (taken .unitary-there (x .n)))
-      (omega (arith, r .reduced .least .least (entries t) (r .same), exponent-size (x .k) (taken .exponent-in))) (n .normal)
-      (Same-trans (Same-sym (n .same)) (Same-sym (r .same)))
-
   pub has-room : (old : List ℕ) → enough ≤ length old → (p : ℕ) → TooMany bytes (NormalOf (asked x)) old × (p ≡ 0) → ⊥
-  has-room old l p h = omega (arith, h .0 .more, bytes-length (h .0 .v), short (h .0 .v) (h .0 .answer))
+  has-room old l p h =
+      omega (arith, h .0 .more, bytes-length (h .0 .v), answer-short (x .k) (x .n) (x .z) (x .w) taken (h .0 .v) (h .0 .answer))
 
 -- ---- the text of job 4's answer
 abbrev pub textOf : Synthesis → List ℕ → List ℕ
@@ -118,7 +106,7 @@ module _ (x : Numbers) (old : List ℕ) (enough-there : enough ≤ length old) (
           (has-room x (checks-taken (x .k) (x .z) (x .w) h) old enough-there, tt) j o
 
       word-there : take (length (y .v)) (over (bytes (y .v)) old) ≡ bytes (y .v)
-      word-there = take-at (bytes (y .v)) (drop (length (bytes (y .v))) old) (length (y .v)) (bytes-length (y .v))
+      word-there = text-there (bytes (y .v)) old (length (y .v)) (sym (bytes-length (y .v)))
 
   module _ (j : Synthesis) (new : List ℕ) (o : Job4Of x old j new) where
     pub numbers-outcome : NumbersOutcome x out (print (lent j new))
@@ -129,16 +117,10 @@ module _ (x : Numbers) (old : List ℕ) (enough-there : enough ≤ length old) (
 
     -- what is handed back as written is there, and not too long
     pub there : j .bytes ≤ length new
-    there =
-        written-there bytes Job4.counts (NormalOf (asked x)) old Job4.refused (λ y. y .bytes) (λ n p. refl) (λ v. sym (bytes-length v))
-        (checks (x .k) (x .z) (x .w) also (room bytes (NormalOf (asked x)) old then none)) (lent j new) o
+    there = bytes-there (x .k) (x .n) (number (x .z)) (number (x .w)) old j new o
 
     pub few : j .bytes ≤ enough
-    few =
-        always (untouched Job4.refused old) (Writes bytes Job4.counts (NormalOf (asked x)) old)
-        (λ (l : Lent Synthesis). l .handed .bytes ≤ enough) (λ n p. omega arith)
-        (checks (x .k) (x .z) (x .w) also (room bytes (NormalOf (asked x)) old then none))
-        (λ h l y. rw (y .is) (short x (checks-taken (x .k) (x .z) (x .w) (h .0, (h .1 .0, (h .1 .1 .0, tt)))) (y .v) (y .answer))) (lent j new) o
+    few = bytes-few (x .k) (x .n) (number (x .z)) (number (x .w)) old j new o
 
     pub taken-there : j .bytes ≡ length (take (j .bytes) new)
     taken-there = sym (length-take-le (j .bytes) new there)

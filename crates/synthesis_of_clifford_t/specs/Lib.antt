@@ -6,4 +6,5 @@ pub mod Code
 pub mod Closes
 pub mod Parts
 pub mod Answer
+pub mod Enough
 pub mod Useless
