@@ -16,7 +16,7 @@ use Rattle.exact.specs.Outcomes.Lent.{written-there}
 use Rattle.unitary.specs.declared.FromGates.{FromGates}
 use Rattle.normal_form.specs.declared.Written.{Written}
 use Rattle.normal_form.specs.Meaning as Job3
-use Rattle.normal_form.specs.Meaning.{Normalises, NormaliseOutcome, wordRefusals}
+use Rattle.normal_form.specs.Meaning.{Normalises, WordOutcome, NormaliseOutcome, wordRefusals}
 use Rattle.synthesis_of_clifford_t.specs.declared.Synthesis.{Synthesis}
 use Rattle.synthesis_of_clifford_t.specs.Enough.{bytes-there}
 use Rattle.agreement.specs.declared.Agreement.{Agreement}
@@ -65,10 +65,14 @@ module _ (u : List Letter) (w : Within u) (old₁ old₂ : List ℕ) (h : enough
       second-is = second .is ∙ ap handedOn (g .second-is)
 
 -- ---- what is written is there
+pub word-there : (Answer : List Letter → List Letter → Type 0) (bs old : List ℕ) (r : Written) (new : List ℕ) → WordOutcome Answer bs old r new
+    → r .bytes ≤ length new
+word-there Answer bs old r new =
+    written-there bytes Job3.counts (Spelled Answer bs) old Job3.refused (λ x. x .bytes) (λ n p. refl) (λ v. sym (bytes-length v))
+    (wordRefusals Answer bs old) (lent r new)
+
 pub first-there : (bs old : List ℕ) (r : Written) (new : List ℕ) → NormaliseOutcome bs old r new → r .bytes ≤ length new
-first-there bs old r new =
-    written-there bytes Job3.counts (Spelled Normalises bs) old Job3.refused (λ x. x .bytes) (λ n p. refl) (λ v. sym (bytes-length v))
-    (wordRefusals Normalises bs old) (lent r new)
+first-there = word-there Normalises
 
 job4-there : (m : FromGates) (old : List ℕ) (j : Lent Synthesis) → Job4Of m old j → j .handed .bytes ≤ length (j .buffer)
 job4-there m old j = bytes-there (pos (m .matrix .k)) (m .matrix .n) (m .matrix .z) (m .matrix .w) old (j .handed) (j .buffer)

@@ -8,3 +8,4 @@ pub mod Ways
 pub mod Unique
 pub mod Identity
 pub mod Again
+pub mod Phase

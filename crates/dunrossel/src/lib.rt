@@ -8,7 +8,7 @@ ghost use Rattle.dunrossel.specs.Meaning.Exports.{Writes, Synthesises, C
 ghost use Rattle.dunrossel.specs.Meaning.Exports.{Multiplied, Inverted, Parted};
 ghost use Rattle.dunrossel.specs.Meaning.Bench.{NumbersOutcome, BenchOutcome};
 ghost use Rattle.record.specs.Meaning.{numbers};
-ghost use Rattle.normal_form.specs.Meaning.{Normalises, Shortens};
+ghost use Rattle.normal_form.specs.Meaning.{Normalises, DropsPhase};
 ghost use Rattle.circuit.specs.Meaning.{two, three};
 ghost use Rattle.qasm.specs.Meaning.{WriteOutcome, ReadOutcome};
 use qasm::Edition;
@@ -49,7 +49,7 @@ pub extern "C" fn dunrossel_normalise(word: &[u8], buf: &mut [u8], out: &mut [u6
 
 #[no_mangle]
 pub extern "C" fn dunrossel_phase_free(word: &[u8], buf: &mut [u8], out: &mut [u64; 3]) -> u8
-    ensures { λ r. ⌜ Writes Shortens (now (word .entry)) (now (buf .entry)) (r, (now (out .exit), now (buf .exit))) ⌝ }
+    ensures { λ r. ⌜ Writes DropsPhase (now (word .entry)) (now (buf .entry)) (r, (now (out .exit), now (buf .exit))) ⌝ }
 {
     let answer = normal_form::phase_free(word, buf);
     handed::put_counts(answer, out);

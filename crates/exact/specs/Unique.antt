@@ -1,3 +1,4 @@
--- The normal form: its tails, its syllables, and that two normal words with one matrix are one; document 01's table of cases.
+-- The normal form: its tails, its syllables, that two normal words with one matrix are one, and phase-free words.
 pub mod Tails
 pub mod Normal
+pub mod PhaseFree

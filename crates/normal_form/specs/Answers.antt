@@ -10,54 +10,41 @@ use mir.Val.{Fits}
 use lib.ListN.{length, take, drop, length-append}
 use lib.Seq.{take-length}
 use Rattle.exact.specs.Meaning.Word.{Letter, bytes, tees, Spelled}
-use Rattle.exact.specs.Meaning.Normal as normal
+use Rattle.exact.specs.Meaning.Normal.{spell}
 use Rattle.exact.specs.Meaning.Limits.{Accepted, Letter as LETTER, Room}
 use Rattle.exact.specs.Meaning.Lent.{over}
 use Rattle.exact.specs.Cases.Letters.{lettersOf, bytes-length, Inside, bytes-back, inside-passes}
 use Rattle.exact.specs.Unique.Tails.{tees-append}
 use Rattle.exact.specs.Outcomes.Ladder.{Only}
-use Rattle.clifford.specs.Cliffords.{splitC}
 use Rattle.reading.specs.declared.Read.{Read}
 use Rattle.reading.specs.declared.Read.the-variants as Read
 use Rattle.reading.specs.declared.Reading.{Reading}
-use Rattle.reading.specs.Readings.{State, prefix, prefix-tees, start, run, shape, spelled, normal, normal-of}
+use Rattle.reading.specs.Readings.{State, prefix, prefix-tees, start, run, shape, normal, phase-free, normal-of}
 use Rattle.reading.specs.Held.{Holds, Readable, count-is, count-few, bytes-most}
 use Rattle.reading.specs.Steps.{tailOf}
 use Rattle.reading.specs.Letters.{Reads}
 use Rattle.writing.specs.declared.Ending.{Ending}
 use Rattle.writing.specs.Put.{Put, put-more}
-use Rattle.writing.specs.Endings.{endWord, endSize, endingOf, Ended, end-length, end-tees, end-whole, textOf, text-less}
+use Rattle.writing.specs.Endings.{endWord, endSize, endingOf, Ended, end-length, end-tees, textOf, text-is}
 use Rattle.writing.specs.Codes.{codesWord, held-word, bytes-append}
 use Rattle.normal_form.specs.declared.Written.{Written}
-use Rattle.normal_form.specs.Meaning.{Normalises, Shortens, refused, counts, WordOutcome}
-use Rattle.normal_form.specs.Unique.{normalises-single, shortens-single}
+use Rattle.normal_form.specs.Meaning.{Normalises, DropsPhase, refused, counts, WordOutcome}
+use Rattle.normal_form.specs.Unique.{normalises-single, drops-single}
 use Rattle.normal_form.specs.Ways.{RoomOutcome, outside-at, no-room, written-whole, answered-with}
 
--- ---- the answers of job 3, with the final W letters, and of job 5, without
+-- ---- the answers of job 3, with the W letters of the tail, and of job 5, without
 abbrev pub Answers : Bool → List Letter → List Letter → Type 0
 Answers true = Normalises
-Answers false = Shortens
-
-text-is : (u : List Letter) → normal.spell (shape u) ≡ textOf true (run start u)
-text-is u =
-    let st = run start u in
-    spelled st ∙ ap (λ x. prefix (st .lead) (st .stack) ++ x) (sym (end-whole (splitC (st .q))))
-
-normalises : (u : List Letter) → Normalises u (textOf true (run start u))
-normalises u = subst (Normalises u) (text-is u) (record { normal = normal u; same = normal-of u })
+Answers false = DropsPhase
 
 pub answers : (phase : Bool) (u : List Letter) → Answers phase u (textOf phase (run start u))
-answers true u = normalises u
+answers true u = subst (Normalises u) (text-is true (run start u)) (record { normal = normal u; same = normal-of u })
 answers false u =
-    record {
-      whole = textOf true (run start u);
-      phase-free = record { normal = normalises u .normal; less = text-less (run start u) };
-      same = normalises u .same;
-    }
+    record { whole = spell (shape u); phase-free = phase-free u (textOf false (run start u)) (text-is false (run start u)); same = normal-of u }
 
 pub answers-single : (phase : Bool) (u : List Letter) → Only (Answers phase u)
 answers-single true = normalises-single
-answers-single false = shortens-single
+answers-single false = drops-single
 
 -- of a word's bytes that are all letters
 spelled-answer : (phase : Bool) (w : List ℕ) → Inside w (length w) → Spelled (Answers phase) w (textOf phase (run start (lettersOf w)))

@@ -6,6 +6,7 @@ pub mod Answers
 pub mod Emptied
 pub mod Theorems
 pub mod Skipped
-pub mod Closed
 pub mod Again
+pub mod Alike
 pub mod Identity
+pub mod Phase

@@ -1,13 +1,9 @@
--- What jobs 3 and 5 promise: document 01's refusals in their order, or the answer in the lent bytes; and what comes out where a phase-free word
--- is fed back.
-use mathlib.Core.Bool.{Bool, true, cond}
-use mathlib.Core.List.{List, [], _∷_}
+-- What jobs 3 and 5 promise: document 01's refusals in their order, or the answer in the lent bytes.
+use mathlib.Core.List.{List}
 use Prim.Native.Nat.{ℕ}
-use lib.Dec.{eqb}
 use lib.ListN.{length}
-use Rattle.exact.specs.Meaning.Matrix.{Same}
-use Rattle.exact.specs.Meaning.Word.{Letter as Gate, I, word, tee, tees, bytes, Spelled}
-use Rattle.exact.specs.Meaning.Normal.{NormalOf, PhaseFree}
+use Rattle.exact.specs.Meaning.Word.{Letter as Gate, word, tees, bytes, Spelled}
+use Rattle.exact.specs.Meaning.Normal.{NormalOf, PhaseFreeOf}
 use Rattle.exact.specs.Meaning.Limits.{Accepted}
 use Rattle.exact.specs.Meaning.Outcome.{Refusals, none, _then_, Outcome}
 use Rattle.exact.specs.Meaning.Lent.{lent, untouched, Writes}
@@ -19,11 +15,9 @@ use Rattle.normal_form.specs.declared.Written.{Written}
 abbrev pub Normalises : List Gate → List Gate → Type 0
 Normalises u v = NormalOf (word u) v
 
--- job 5: that word less its final W letters
-pub record Shortens (u v : List Gate) : Type 0 where
-  pub whole : List Gate
-  pub phase-free : PhaseFree v whole
-  pub same : Same (word u) (word whole)
+-- job 5: that word's phase-free word
+abbrev pub DropsPhase : List Gate → List Gate → Type 0
+DropsPhase u v = PhaseFreeOf (word u) v
 
 -- ---- what a writing job hands back
 abbrev pub refused : ℕ → ℕ → Written
@@ -44,13 +38,4 @@ abbrev pub NormaliseOutcome : List ℕ → List ℕ → Written → List ℕ →
 NormaliseOutcome w old r new = WordOutcome Normalises w old r new
 
 abbrev pub PhaseFreeOutcome : List ℕ → List ℕ → Written → List ℕ → Type 0
-PhaseFreeOutcome w old r new = WordOutcome Shortens w old r new
-
--- ---- a word whose tail is empty is closed by an I: the letters, and behind them an I where it is due, which it is behind a T and where there
--- is no letter
-abbrev pub closedIf : Bool → List Gate → List Gate
-closedIf due [] = cond due (I ∷ []) []
-closedIf due (l ∷ u) = l ∷ closedIf (eqb (tee l) 1) u
-
-abbrev pub closed : List Gate → List Gate
-closed u = closedIf true u
+PhaseFreeOutcome w old r new = WordOutcome DropsPhase w old r new

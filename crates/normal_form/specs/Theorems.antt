@@ -10,19 +10,19 @@ use lib.ListN.{length, getD}
 use mir.Facts.{and-yes}
 use Rattle.exact.specs.Meaning.Matrix.{Same}
 use Rattle.exact.specs.Meaning.Word.{Letter, I, S, W, T′, word, tees, bytes, Spelled}
-use Rattle.exact.specs.Meaning.Normal.{Normal, times, lessFinalW}
+use Rattle.exact.specs.Meaning.Normal.{Normal, times, spell, withoutW}
 use Rattle.exact.specs.Meaning.Limits.{longest, Accepted, Room}
 use Rattle.exact.specs.Meaning.Lent.{Lent, lent, over, untouched, Writes}
 use Rattle.exact.specs.Matrices.Test.{sameTest, same-by}
 use Rattle.exact.specs.Unique.Normal.{normal-fewest}
 use Rattle.exact.specs.Outcomes.Ladder.{Only, always}
 use Rattle.exact.specs.Cases.Letters.{bytes-inj, bytes-length, none-outside}
-use Rattle.exact.specs.Cases.NormalTest.{normalTest, normal-by}
+use Rattle.exact.specs.Cases.NormalTest.{shapeOf, normalTest, normal-by, phase-free-by}
 use Rattle.exact.specs.Cases.Table.{Row, Each, cases, Normalised, all-cases}
 use Rattle.exact.specs.Outcomes.Lent.{handed-same, bytes-same}
 use Rattle.normal_form.specs.declared.Written.{Written}
-use Rattle.normal_form.specs.Meaning.{Normalises, Shortens, refused, counts, wordRefusals, WordOutcome, NormaliseOutcome, PhaseFreeOutcome}
-use Rattle.normal_form.specs.Unique.{normalises-single, shortens-single, outcome-unique}
+use Rattle.normal_form.specs.Meaning.{Normalises, DropsPhase, refused, counts, wordRefusals, WordOutcome, NormaliseOutcome, PhaseFreeOutcome}
+use Rattle.normal_form.specs.Unique.{normalises-single, drops-single, outcome-unique}
 use Rattle.normal_form.specs.Ways.{RoomOutcome, no-room, written-whole, answered-with}
 use Rattle.reading.specs.Readings.{start, run}
 use Rattle.writing.specs.Endings.{textOf}
@@ -34,7 +34,7 @@ module _ (w old : List ℕ) (r : Written) (new : List ℕ) (r′ : Written) (new
   normalise-unique = outcome-unique normalises-single w old r new r′ new′
 
   pub phase-free-unique : PhaseFreeOutcome w old r new → PhaseFreeOutcome w old r′ new′ → lent r new ≡ lent r′ new′
-  phase-free-unique = outcome-unique shortens-single w old r new r′ new′
+  phase-free-unique = outcome-unique drops-single w old r new r′ new′
 
 -- ---- every word has a normal word
 pub record HasNormal (u : List Letter) : Type 0 where
@@ -105,18 +105,18 @@ normalised u v t =
     let s = and-yes (normalTest v) (sameTest (word u) (word v)) t in
     record { normal = normal-by v (s .0); same = same-by (word u) (word v) (s .1) }
 
-shortened : (u v x : List Letter) → T (normalTest v && sameTest (word u) (word v)) → lessFinalW v ≡ x → Shortens u x
-shortened u v x t e =
-    let a = normalised u v t in
-    record { whole = v; phase-free = record { normal = a .normal; less = e }; same = a .same }
+freed : (u v x : List Letter) → T (normalTest v && sameTest (word u) (word v)) → spell (withoutW (shapeOf v)) ≡ x → DropsPhase u x
+freed u v x t e =
+    let s = and-yes (normalTest v) (sameTest (word u) (word v)) t in
+    record { whole = v; phase-free = phase-free-by v x (s .0) e; same = same-by (word u) (word v) (s .1) }
 
 -- a program's answer for a word u, where the right answer v fits, is v
 module _ (u v : List Letter) (old : List ℕ) (t : length u ≤ longest) (l : length (bytes v) ≤ length old) {r : Written} {new : List ℕ} where
   pub job3-only : Normalises u v → NormaliseOutcome (bytes u) old r new → lent r new ≡ lent (counts v) (over (bytes v) old)
   job3-only a = only-fits Normalises normalises-single u v old t a r new l
 
-  pub job5-only : Shortens u v → PhaseFreeOutcome (bytes u) old r new → lent r new ≡ lent (counts v) (over (bytes v) old)
-  job5-only a = only-fits Shortens shortens-single u v old t a r new l
+  pub job5-only : DropsPhase u v → PhaseFreeOutcome (bytes u) old r new → lent r new ≡ lent (counts v) (over (bytes v) old)
+  job5-only a = only-fits DropsPhase drops-single u v old t a r new l
 
 -- so its first byte is v's
 first-same : {r s : Written} {x y : List ℕ} → lent r x ≡ lent s y → getD x 0 0 ≡ getD y 0 0
@@ -148,28 +148,28 @@ refuses-all-3 r new o =
 
 pub refuses-all-5 : (r : Written) (new : List ℕ) → PhaseFreeOutcome [] (dots 1) r new → r .refusal ≡ 0
 refuses-all-5 r new o =
-    let a = shortened none (I ∷ []) (I ∷ []) tt refl in
+    let a = freed none (I ∷ []) (I ∷ []) tt refl in
     ap (λ (x : Written). x .refusal) (handed-same (job5-only none (I ∷ []) (dots 1) (omega arith) (omega arith) a o))
 
 -- ---- always I
 T-normalised : Normalises one-T (T′ ∷ I ∷ [])
 T-normalised = normalised one-T (T′ ∷ I ∷ []) tt
 
-T-shortened : Shortens one-T (T′ ∷ I ∷ [])
-T-shortened = shortened one-T (T′ ∷ I ∷ []) (T′ ∷ I ∷ []) tt refl
+T-freed : DropsPhase one-T (T′ ∷ I ∷ [])
+T-freed = freed one-T (T′ ∷ I ∷ []) (T′ ∷ I ∷ []) tt refl
 
 pub always-I-3 : (r : Written) → NormaliseOutcome (bytes one-T) (dots 2) r (bytes (I ∷ []) ++ dots 1) → ⊥
 always-I-3 r o = omega (arith, first-same (job3-only one-T (T′ ∷ I ∷ []) (dots 2) (omega arith) (omega arith) T-normalised o))
 
 pub always-I-5 : (r : Written) → PhaseFreeOutcome (bytes one-T) (dots 2) r (bytes (I ∷ []) ++ dots 1) → ⊥
-always-I-5 r o = omega (arith, first-same (job5-only one-T (T′ ∷ I ∷ []) (dots 2) (omega arith) (omega arith) T-shortened o))
+always-I-5 r o = omega (arith, first-same (job5-only one-T (T′ ∷ I ∷ []) (dots 2) (omega arith) (omega arith) T-freed o))
 
 -- ---- the word copied through
 pub copied-3 : (r : Written) → NormaliseOutcome (bytes two-T) (dots 2) r (bytes two-T) → ⊥
 copied-3 r o = omega (arith, first-same (job3-only two-T (S ∷ []) (dots 2) (omega arith) (omega arith) (normalised two-T (S ∷ []) tt) o))
 
 pub copied-5 : (r : Written) → PhaseFreeOutcome (bytes two-T) (dots 2) r (bytes two-T) → ⊥
-copied-5 r o = omega (arith, first-same (job5-only two-T (S ∷ []) (dots 2) (omega arith) (omega arith) (shortened two-T (S ∷ []) (S ∷ []) tt refl) o))
+copied-5 r o = omega (arith, first-same (job5-only two-T (S ∷ []) (dots 2) (omega arith) (omega arith) (freed two-T (S ∷ []) (S ∷ []) tt refl) o))
 
 -- ---- the first hundred letters normalised, and the others copied: those hundred are WWWW
 pub first-hundred : Normalises (times 100 W) (times 4 W)
@@ -190,7 +190,7 @@ first-letters-3 r o =
 
 pub first-letters-5 : (r : Written) → PhaseFreeOutcome (bytes hundred) (dots 8) r (bytes two-T ++ dots 6) → ⊥
 first-letters-5 r o =
-    let a = shortened hundred (S ∷ times 4 W) (S ∷ []) whole-hundred refl in
+    let a = freed hundred (S ∷ times 4 W) (S ∷ []) whole-hundred refl in
     omega (arith, first-same (job5-only hundred (S ∷ []) (dots 8) short-hundred (omega arith) a o))
 
 -- ---- a T count one too high

@@ -1,27 +1,22 @@
 -- Jobs 3 and 5: an answer is the only one, and two allowed outcomes are equal. Assumes nothing.
-use mathlib.Core.Path.{_≡_, sym, _∙_, ap}
+use mathlib.Core.Path.{_≡_}
 use mathlib.Core.List.{List}
 use Prim.Native.Nat.{ℕ}
 use Rattle.exact.specs.Meaning.Word.{Letter as Gate, word, bytes, Spelled}
-use Rattle.exact.specs.Meaning.Normal.{lessFinalW}
 use Rattle.exact.specs.Meaning.Lent.{lent, untouched, Writes}
-use Rattle.exact.specs.Matrices.Same.{Same-sym, Same-trans}
-use Rattle.exact.specs.Unique.Normal.{unique}
+use Rattle.exact.specs.Unique.PhaseFree.{phase-free-once}
 use Rattle.exact.specs.Outcomes.Ladder.{Only, one-outcome}
 use Rattle.exact.specs.Outcomes.Places.{one-plain, one-letter, one-spelled, one-normal}
 use Rattle.exact.specs.Outcomes.Lent.{one-written}
 use Rattle.normal_form.specs.declared.Written.{Written}
-use Rattle.normal_form.specs.Meaning.{Normalises, Shortens, refused, counts, wordRefusals, WordOutcome}
+use Rattle.normal_form.specs.Meaning.{Normalises, DropsPhase, refused, counts, wordRefusals, WordOutcome}
 
 -- ---- an answer is the only one
 pub normalises-single : (u : List Gate) → Only (Normalises u)
 normalises-single u = one-normal (word u)
 
-pub shortens-single : (u : List Gate) → Only (Shortens u)
-shortens-single u v v′ p q = sym (p .phase-free .less) ∙ ap lessFinalW whole ∙ q .phase-free .less
-  where
-    whole : p .whole ≡ q .whole
-    whole = unique (p .phase-free .normal) (q .phase-free .normal) (Same-trans (Same-sym (p .same)) (q .same))
+pub drops-single : (u : List Gate) → Only (DropsPhase u)
+drops-single u v v′ = phase-free-once
 
 -- ---- two allowed outcomes are equal
 pub outcome-unique : {Answer : List Gate → List Gate → Type 0} → ((u : List Gate) → Only (Answer u))

@@ -71,7 +71,7 @@ fn read_and_write(
     }
 }
 
-// Jobs 3 and 5: with the final W letters, or without.
+// Jobs 3 and 5: with the W letters of the tail, or without.
 fn answer(word: &[u8], phase: bool, buf: &mut [u8]) -> Written
     ensures { λ r. ⌜ WordOutcome (Answers phase) (now (word .entry)) (now (buf .entry)) r (now (buf .exit)) ⌝ }
 {
@@ -90,7 +90,7 @@ pub fn normalise(word: &[u8], buf: &mut [u8]) -> Written
     answer(word, true, buf)
 }
 
-// Job 5: the same less its final W letters.
+// Job 5: the same word with no W in its tail, which is I where that leaves nothing.
 pub fn phase_free(word: &[u8], buf: &mut [u8]) -> Written
     ensures { λ r. ⌜ PhaseFreeOutcome (now (word .entry)) (now (buf .entry)) r (now (buf .exit)) ⌝ }
 {

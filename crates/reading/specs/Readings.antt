@@ -9,7 +9,7 @@ use lib.ListN.{length, length-append}
 use Rattle.exact.specs.Meaning.Matrix.{Same}
 use Rattle.exact.specs.Meaning.Word.{Letter, I, H, S, X, W, T′, word, tees}
 use Rattle.exact.specs.Meaning.Normal.{Syllable, HT, SHT, Front, nothing, onlyH, onlySH, Tail, Shape, Fits, Normal, times, frontWord, tailWord, orI}
-use Rattle.exact.specs.Meaning.Normal.{after, leading, spell}
+use Rattle.exact.specs.Meaning.Normal.{after, leading, spell, withoutW, PhaseFree}
 use Rattle.exact.specs.Meaning.Clifford.{cycle}
 use Rattle.exact.specs.Matrices.Same.{Same-of}
 use Rattle.exact.specs.Unique.Normal.{spell-word}
@@ -180,8 +180,12 @@ abbrev turned : List Syllable → List Syllable → List Syllable
 turned [] acc = acc
 turned (s ∷ ss) acc = turned ss (s ∷ acc)
 
+-- a reading's syllables before a tail
+abbrev pub shapeTo : State → Tail → Shape
+shapeTo st t = record { lead = st .lead; syllables = turned (st .stack) []; tail = t }
+
 abbrev pub shapeOf : State → Shape
-shapeOf st = record { lead = st .lead; syllables = turned (st .stack) []; tail = tailAt (splitC (st .q)) }
+shapeOf st = shapeTo st (tailAt (splitC (st .q)))
 
 after-cons : (s : Syllable) (ss : List Syllable) (u : List Letter) → after (s ∷ ss) u ≡ syllable s ++ after ss u
 after-cons HT ss u = refl
@@ -199,8 +203,8 @@ turned-is b (s ∷ ss) acc u =
     ∙ sym (append-assoc (prefix b ss) (syllable s) (after acc u))
 
 -- the prefix, and then the tail
-pub spelled : (st : State) → spell (shapeOf st) ≡ prefix (st .lead) (st .stack) ++ orI (tailWord (tailAt (splitC (st .q))))
-spelled st = turned-is (st .lead) (st .stack) [] (orI (tailWord (tailAt (splitC (st .q)))))
+pub spelled : (st : State) (t : Tail) → spell (shapeTo st t) ≡ prefix (st .lead) (st .stack) ++ orI (tailWord t)
+spelled st t = turned-is (st .lead) (st .stack) [] (orI (tailWord t))
 
 front-is : (a : Axis) → frontWord (frontOf a) ≡ axisWord a
 front-is Axis.I = refl
@@ -230,6 +234,10 @@ shape u = shapeOf (run start u)
 
 pub normal : (u : List Letter) → Normal (spell (shape u))
 normal u = record { shape = shape u; fits = fits (run start u .q) (run-ranged start u start-ranged); spelled = refl }
+
+pub phase-free : (u v : List Letter) → spell (withoutW (shape u)) ≡ v → PhaseFree v (spell (shape u))
+unfolding normal
+phase-free u v e = record { normal = normal u; spelled = e }
 
 pub normal-of : (u : List Letter) → Same (word u) (word (spell (shape u)))
 normal-of u = (run-same start u start-ranged ⨾ normal-same (run start u) (run-ranged start u start-ranged)) .same

@@ -9,7 +9,7 @@ use Rattle.exact.specs.Meaning.Word.{Letter, I, H, S, X, W, T′, tees}
 use Rattle.exact.specs.Meaning.Normal.{Syllable, HT, SHT, tailWord, orI, spell}
 use Rattle.exact.specs.Meaning.Triple.{Triple}
 use Rattle.exact.specs.Matrices.Same.{Same-sym}
-use Rattle.exact.specs.Unique.Tails.{tees-append, tail-tees}
+use Rattle.exact.specs.Unique.Tails.{tees-append, orI-tail-tees}
 use Rattle.clifford.specs.declared.Axis.{Axis}
 use Rattle.clifford.specs.declared.Axis.the-variants as Axis
 use Rattle.clifford.specs.declared.Clifford.{Clifford}
@@ -60,21 +60,16 @@ pops-meets T′ st h =
     }
 
 -- ---- as many syllables as the normal word has T letters
-orI-tees : (u : List Letter) → tees (orI u) ≡ tees u
-orI-tees [] = refl
-orI-tees (l ∷ u) = refl
-
 size-tees : (u : List Letter) → tees (spell (shape u)) ≡ sizeOf (run start u)
 size-tees u =
     let st = run start u in
     let end = tailAt (splitC (st .q)) in
     omega (
       arith,
-      ap tees (spelled st),
+      ap tees (spelled st end),
       tees-append (prefix (st .lead) (st .stack)) (orI (tailWord end)),
       prefix-tees (st .lead) (st .stack),
-      orI-tees (tailWord end),
-      tail-tees end,
+      orI-tail-tees end,
     )
 
 -- ---- job 4

@@ -1,7 +1,7 @@
--- The letters of a tail, counted one letter after the other, with its final W letters or without. Assumes nothing.
+-- The letters of a tail, counted one letter after the other, with its W letters or without. Assumes nothing.
 use mathlib.Core.Path.{_≡_, refl, sym, _∙_, ap, subst}
 use mathlib.Core.Bool.{Bool, true, false, cond}
-use mathlib.Core.List.{List, [], _∷_, _++_, append-assoc, append-nil}
+use mathlib.Core.List.{List, [], _∷_, _++_, append-nil}
 use Prim.Native.Nat.{ℕ, zero, suc, _+_, _-_, _≤_, _<_}
 use native.Mathlib.Nat.{zero-add, suc-add}
 use native.Mathlib.Omega.{arith}
@@ -9,7 +9,7 @@ use lib.Dec.{eqb, ltb}
 use lib.ListN.{length, length-append, getD}
 use borrow.Author.Tests.{eqb-true, eqb-false, ne-eqb, ltb-true, ltb-false}
 use Rattle.exact.specs.Meaning.Word.{Letter, I, H, S, X, W, byte, bytes, tees}
-use Rattle.exact.specs.Meaning.Normal.{times, tailWord, orI, kept, lessFinalW, HT, SHT, Syllable}
+use Rattle.exact.specs.Meaning.Normal.{Tail, times, tailWord, orI, spell}
 use Rattle.exact.specs.Unique.Tails.{tees-append}
 use Rattle.clifford.specs.declared.Axis.{Axis}
 use Rattle.clifford.specs.declared.Axis.the-variants as Axis
@@ -18,7 +18,7 @@ use Rattle.clifford.specs.declared.Coset.{Coset}
 use Rattle.writing.specs.declared.Ending.{Ending}
 use Rattle.clifford.specs.Meaning.{Ranged}
 use Rattle.clifford.specs.Cliffords.{splitC, split-right}
-use Rattle.reading.specs.Readings.{State, prefix, tailAt}
+use Rattle.reading.specs.Readings.{State, prefix, frontOf, shapeTo, spelled}
 
 abbrev pub essesOf : Axis → ℕ
 essesOf Axis.I = 0
@@ -120,17 +120,24 @@ letter-in e j h = run-next (e .first) (e .first) S (fromH e) j j (atH e j) refl 
     afterS : e .first ≤ j → atH e j ≡ getD (bytes (fromH e)) (j - e .first) 0
     afterS k = run-next (toH e) (e .h) H (fromI e) j (j - e .first) (atI e j) (omega (arith, k)) afterH
 
--- an empty tail is one I
-abbrev pub endingAt : Bool → Coset → Ending
-endingAt phase r =
+-- the W letters of a tail that are written
+abbrev pub keptOf : Bool → Coset → ℕ
+keptOf phase r = cond phase (r .rest .d) 0
+
+-- a tail with no letter to write is one I
+abbrev endingBy : Axis → Clifford → ℕ → Ending
+endingBy a c w =
     record {
-      first = essesOf (r .axis);
-      h = aitchesOf (r .axis);
-      i = cond (eqb (essesOf (r .axis) + aitchesOf (r .axis) + r .rest .b + r .rest .c + r .rest .d) 0) 1 0;
-      x = r .rest .b;
-      s = r .rest .c;
-      w = cond phase (r .rest .d) 0;
+      first = essesOf a;
+      h = aitchesOf a;
+      i = cond (eqb (essesOf a + aitchesOf a + c .b + c .c + w) 0) 1 0;
+      x = c .b;
+      s = c .c;
+      w = w;
     }
+
+abbrev pub endingAt : Bool → Coset → Ending
+endingAt phase r = endingBy (r .axis) (r .rest) (keptOf phase r)
 
 abbrev pub endingOf : Bool → Clifford → Ending
 endingOf phase q = endingAt phase (splitC q)
@@ -164,10 +171,10 @@ pub end-few : (phase : Bool) (q : Clifford) → Ranged q → endSize (endingOf p
 end-few phase q h =
     let r = splitC q in
     let p = split-right q h .ranged in
-    let n = essesOf (r .axis) + aitchesOf (r .axis) + r .rest .b + r .rest .c + r .rest .d in
+    let n = essesOf (r .axis) + aitchesOf (r .axis) + r .rest .b + r .rest .c + keptOf phase r in
     omega (arith, p .b-few, p .c-few, p .d-few, axis-few (r .axis), cond-few phase (r .rest .d) 0, cond-few (eqb n 0) 1 0)
 
--- ---- with the W letters: the tail, I where it is empty
+-- ---- the tail with the W letters that are kept, I where it is empty
 orI-more : (u : List Letter) → (length u ≡ 0 → ⊥) → orI u ≡ u
 orI-more [] f = absurd (f refl)
 orI-more (l ∷ u) f = refl
@@ -185,72 +192,26 @@ end-none x s w false k =
     let z : (0 + 0 + x + s + w ≡ 0 → ⊥) = eqb-false (0 + 0 + x + s + w) 0 k in
     sym (orI-more (times x X ++ (times s S ++ times w W)) (λ e. z (omega (arith, simp (length-append, times-length) at e))))
 
-end-at : (a : Axis) (c : Clifford)
-    → endWord (endingAt true (record { axis = a; rest = c })) ≡ orI (tailWord (tailAt (record { axis = a; rest = c })))
-end-at Axis.H c = rw (ne-eqb (0 + 1 + c .b + c .c + c .d) 0 (λ z. omega arith))
-end-at Axis.SH c = rw (ne-eqb (1 + 1 + c .b + c .c + c .d) 0 (λ z. omega arith))
-end-at Axis.I c = end-none (c .b) (c .c) (c .d) (eqb (0 + 0 + c .b + c .c + c .d) 0) refl
+abbrev pub tailKept : Bool → Coset → Tail
+tailKept phase r = record { front = frontOf (r .axis); xs = r .rest .b; ss = r .rest .c; ws = keptOf phase r }
 
-pub end-whole : (r : Coset) → endWord (endingAt true r) ≡ orI (tailWord (tailAt r))
-end-whole r = end-at (r .axis) (r .rest)
+end-at : (a : Axis) (c : Clifford) (w : ℕ)
+    → endWord (endingBy a c w) ≡ orI (tailWord (record { front = frontOf a; xs = c .b; ss = c .c; ws = w }))
+end-at Axis.H c w = rw (ne-eqb (0 + 1 + c .b + c .c + w) 0 (λ z. omega arith))
+end-at Axis.SH c w = rw (ne-eqb (1 + 1 + c .b + c .c + w) 0 (λ z. omega arith))
+end-at Axis.I c w = end-none (c .b) (c .c) w (eqb (0 + 0 + c .b + c .c + w) 0) refl
 
--- ---- without them
--- a word with no W is kept whatever follows
-pub record Keeps (u : List Letter) : Type 0 where
-  pub keeps : (v : List Letter) → lessFinalW (u ++ v) ≡ u ++ lessFinalW v
-
-pub keeps-nil : Keeps []
-keeps-nil = record { keeps = λ v. refl }
-
-pub keeps-append : {u v : List Letter} → Keeps u → Keeps v → Keeps (u ++ v)
-keeps-append {u} {v} h k =
-    record {
-      keeps =
-          λ x.
-          ap lessFinalW (append-assoc u v x)
-          ∙ h .keeps (v ++ x)
-          ∙ ap (λ y. u ++ y) (k .keeps x)
-          ∙ sym (append-assoc u v (lessFinalW x));
-    }
-
-pub keeps-times : (n : ℕ) (l : Letter) → ((u : List Letter) → kept l u ≡ l ∷ u) → Keeps (times n l)
-keeps-times n l f = record { keeps = λ v. go n v }
-  where
-    go : (n : ℕ) (v : List Letter) → lessFinalW (times n l ++ v) ≡ times n l ++ lessFinalW v
-    go zero v = refl
-    go (suc n) v = ap (kept l) (go n v) ∙ f (times n l ++ lessFinalW v)
-
-pub no-more : (n : ℕ) → lessFinalW (times n W) ≡ []
-no-more zero = refl
-no-more (suc n) = ap (kept W) (no-more n)
-
-keeps-prefix : (b : Bool) (ss : List Syllable) → Keeps (prefix b ss)
-keeps-prefix true [] = record { keeps = λ v. refl }
-keeps-prefix false [] = keeps-nil
-keeps-prefix b (HT ∷ ss) = keeps-append (keeps-prefix b ss) (record { keeps = λ v. refl })
-keeps-prefix b (SHT ∷ ss) = keeps-append (keeps-prefix b ss) (record { keeps = λ v. refl })
-
-end-less : (e : Ending) → lessFinalW (endWord e) ≡ endWord (record { first = e .first; h = e .h; i = e .i; x = e .x; s = e .s; w = 0 })
-end-less e =
-    keeps-times (e .first) S (λ u. refl) .keeps (fromH e)
-    ∙ ap (λ y. times (e .first) S ++ y)
-    (keeps-times (e .h) H (λ u. refl) .keeps (fromI e)
-    ∙ ap (λ y. times (e .h) H ++ y)
-    (keeps-times (e .i) I (λ u. refl) .keeps (fromX e)
-    ∙ ap (λ y. times (e .i) I ++ y)
-    (keeps-times (e .x) X (λ u. refl) .keeps (fromS e)
-    ∙ ap (λ y. times (e .x) X ++ y)
-    (keeps-times (e .s) S (λ u. refl) .keeps (times (e .w) W)
-    ∙ ap (λ y. times (e .s) S ++ y) (no-more (e .w))))))
+pub end-whole : (phase : Bool) (r : Coset) → endWord (endingAt phase r) ≡ orI (tailWord (tailKept phase r))
+end-whole phase r = end-at (r .axis) (r .rest) (keptOf phase r)
 
 -- the text of a reading
 abbrev pub textOf : Bool → State → List Letter
 textOf phase st = prefix (st .lead) (st .stack) ++ endWord (endingOf phase (st .q))
 
-pub text-less : (st : State) → lessFinalW (textOf true st) ≡ textOf false st
-text-less st =
-    keeps-prefix (st .lead) (st .stack) .keeps (endWord (endingOf true (st .q)))
-    ∙ ap (λ u. prefix (st .lead) (st .stack) ++ u) (end-less (endingOf true (st .q)))
+pub text-is : (phase : Bool) (st : State) → spell (shapeTo st (tailKept phase (splitC (st .q)))) ≡ textOf phase st
+text-is phase st =
+    let r = splitC (st .q) in
+    spelled st (tailKept phase r) ∙ ap (λ x. prefix (st .lead) (st .stack) ++ x) (sym (end-whole phase r))
 
 -- ---- T letters
 pub times-tees : (n : ℕ) (l : Letter) → Rattle.exact.specs.Meaning.Word.tee l ≡ 0 → tees (times n l) ≡ 0
@@ -278,6 +239,9 @@ split-few {q} h e =
       d = omega (arith, p .d-few);
     })
 
+pub kept-few : (phase : Bool) {r : Coset} {w last : ℕ} → Few r → w ≡ r .rest .d → last ≡ cond phase w 0 → last ≤ 7
+kept-few phase {r} {w} h e k = omega (arith, h .d, cond-few phase w 0)
+
 pub ended : {phase : Bool} {q : Clifford} {r : Coset} {first h i x s w last : ℕ}
     → Ranged q
     → r ≡ splitC q
@@ -286,11 +250,11 @@ pub ended : {phase : Bool} {q : Clifford} {r : Coset} {first h i x s w last : �
     → x ≡ r .rest .b
     → s ≡ r .rest .c
     → w ≡ r .rest .d
-    → i ≡ cond (eqb (first + h + x + s + w) 0) 1 0
     → last ≡ cond phase w 0
+    → i ≡ cond (eqb (first + h + x + s + last) 0) 1 0
     → Ended phase q (record { first = first; h = h; i = i; x = x; s = s; w = last })
 ended {phase} {q} {r} {first} {h} {i} {x} {s} {w} {last} k e e₁ e₂ e₃ e₄ e₅ e₆ e₇ =
     record { is = is; few = subst (λ (n : Ending). endSize n ≤ 64) (sym is) (end-few phase q k) }
   where
     is : _≡_ {A = Ending} (record { first = first; h = h; i = i; x = x; s = s; w = last }) (endingOf phase q)
-    is = rw (e₆, e₇, e₁, e₂, e₃, e₄, e₅, e)
+    is = rw (e₇, e₆, e₁, e₂, e₃, e₄, e₅, e)

@@ -53,7 +53,7 @@ fn aitches(axis: Axis) -> usize
     }
 }
 
-// An empty tail is one I.
+// A tail with no letter to write is one I.
 fn one_if_none(n: usize) -> usize
     ensures { λ r. ⌜ r ≡ cond (eqb n 0) 1 0 ⌝ }
 {
@@ -78,8 +78,8 @@ pub fn ending_of(table: &[u8], t: Tail, phase: bool) -> Ending
     let x = wide(rest.b);
     let s = wide(rest.c);
     let w = wide(rest.d);
-    let i = one_if_none(first + h + x + s + w);
     let last = kept(phase, w);
+    let i = one_if_none(first + h + x + s + last);
     Ending {
         first: first,
         h: h,

@@ -1,4 +1,6 @@
--- A computed test for normal words: the shape is read off the letters, and its spelling compared with them. Assumes nothing.
+-- A computed test for normal words: the shape is read off the letters, and its spelling compared with them; and their phase-free words. Assumes
+-- nothing.
+use mathlib.Core.Path.{_≡_}
 use mathlib.Core.Bool.{Bool, true, false, cond, _&&_}
 use mathlib.Core.List.{List, [], _∷_}
 use Prim.Native.Nat.{ℕ, zero, suc}
@@ -8,6 +10,7 @@ use lib.ListN.{length, drop}
 use mir.Facts.{and-yes}
 use Rattle.exact.specs.Meaning.Word.{Letter, H, S, X, W, T′}
 use Rattle.exact.specs.Meaning.Normal.{Syllable, HT, SHT, Front, nothing, onlyH, onlySH, Tail, Shape, frontWord, after, spell, Fits, Normal}
+use Rattle.exact.specs.Meaning.Normal.{withoutW, PhaseFree}
 use Rattle.exact.specs.Cases.Letters.{eqLetter, eqWord, eqWord-is}
 
 -- ---- reading a shape
@@ -69,3 +72,7 @@ pub normal-by : (u : List Letter) → T (normalTest u) → Normal u
 normal-by u t =
     let p = and-yes (fitsTest (shapeOf u .tail)) (eqWord (spell (shapeOf u)) u) t in
     record { shape = shapeOf u; fits = fitsTest-is (shapeOf u .tail) (p .0); spelled = eqWord-is (spell (shapeOf u)) u (p .1) }
+
+pub phase-free-by : (u v : List Letter) → T (normalTest u) → spell (withoutW (shapeOf u)) ≡ v → PhaseFree v u
+unfolding normal-by
+phase-free-by u v t e = record { normal = normal-by u t; spelled = e }

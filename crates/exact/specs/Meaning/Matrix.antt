@@ -1,8 +1,9 @@
--- Matrices, as document 01 has them: two by two, of ring numbers, over a power of root two; and the least such power.
+-- Matrices, as document 01 has them: two by two, of ring numbers, over a power of root two; the least such power; and which differ by a power of
+-- omega.
 use mathlib.Core.Path.{_≡_}
 use Prim.Native.Nat.{ℕ, _+_, _≤_}
 use lib.IntN.{pos}
-use Rattle.exact.specs.Meaning.Number.{Ops, omegas, Ω, root2^}
+use Rattle.exact.specs.Meaning.Number.{Ops, omegas, Ω, omega^, root2^}
 
 -- [p q; r s]
 pub record Mat (A : Type 0) : Type 0 where
@@ -45,6 +46,16 @@ x · y = record { m = mulM omegas (x .m) (y .m); e = x .e + y .e }
 -- the same matrix: they agree after each is multiplied by root two to the other's exponent
 pub record Same (x y : Matrix) : Type 0 where
   pub same : scaleM omegas (root2^ (y .e)) (x .m) ≡ scaleM omegas (root2^ (x .e)) (y .m)
+
+-- a number times a matrix
+abbrev pub scaled : Ω → Matrix → Matrix
+scaled c x = record { m = scaleM omegas c (x .m); e = x .e }
+
+-- they differ by a power of omega: x is omega to the power times y
+pub record ByOmega (x y : Matrix) : Type 0 where
+  pub power : ℕ
+  pub few : power ≤ 7
+  pub same : Same x (scaled (omega^ power) y)
 
 -- k is the least exponent that the matrix can be written with
 pub record Least (x : Matrix) (k : ℕ) : Type 0 where

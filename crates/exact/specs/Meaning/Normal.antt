@@ -1,5 +1,5 @@
 -- Normal words, as document 01 has them: at most one leading T, then any number of HT and SHT, then a tail: nothing, H or SH, then X at most
--- once, S at most 3 times, W at most 7 times, an empty tail written I; and the phase-free word, which is a normal word less its final W letters.
+-- once, S at most 3 times, W at most 7 times, an empty tail written I; and phase-free words, as document 02's request A3 has them.
 use mathlib.Core.Path.{_≡_}
 use mathlib.Core.Bool.{Bool, true, false}
 use mathlib.Core.List.{List, [], _∷_, _++_}
@@ -67,21 +67,20 @@ pub record NormalOf (m : Matrix) (u : List Letter) : Type 0 where
   pub normal : Normal u
   pub same : Same m (word u)
 
--- ---- less the final W letters
--- a letter before what is left of the letters after it
-abbrev pub kept : Letter → List Letter → List Letter
-kept I u = I ∷ u
-kept H u = H ∷ u
-kept S u = S ∷ u
-kept X u = X ∷ u
-kept T′ u = T′ ∷ u
-kept W [] = []
-kept W (l ∷ u) = W ∷ l ∷ u
+-- ---- phase-free words: a normal word's own shape with no W in its tail, spelled as normal words are
+abbrev pub noW : Tail → Tail
+noW t = record { front = t .front; xs = t .xs; ss = t .ss; ws = 0 }
 
-abbrev pub lessFinalW : List Letter → List Letter
-lessFinalW [] = []
-lessFinalW (l ∷ u) = kept l (lessFinalW u)
+abbrev pub withoutW : Shape → Shape
+withoutW n = record { lead = n .lead; syllables = n .syllables; tail = noW (n .tail) }
 
+-- u is the phase-free word of the normal word v
 pub record PhaseFree (u v : List Letter) : Type 0 where
   pub normal : Normal v
-  pub less : lessFinalW v ≡ u
+  pub spelled : spell (withoutW (normal .shape)) ≡ u
+
+-- the phase-free word of the normal word with the matrix m
+pub record PhaseFreeOf (m : Matrix) (u : List Letter) : Type 0 where
+  pub whole : List Letter
+  pub phase-free : PhaseFree u whole
+  pub same : Same m (word whole)

@@ -11,7 +11,7 @@ use lib.IntN.{ℤ, pos, negsuc}
 use Rattle.exact.specs.Meaning.Number.{Ω, ints, omegas, mulQ, constQ, omega′, omega^, odd}
 use Rattle.exact.specs.Meaning.Matrix.{mulM, Matrix, _·_, Same}
 use Rattle.exact.specs.Meaning.Word.{Letter, S, X, W, letter, word, tee, tees}
-use Rattle.exact.specs.Meaning.Normal.{Front, nothing, onlyH, onlySH, Tail, times, frontWord, tailWord, Fits}
+use Rattle.exact.specs.Meaning.Normal.{Front, nothing, onlyH, onlySH, Tail, times, frontWord, tailWord, orI, Fits}
 use Rattle.exact.specs.Meaning.Clifford.{Clifford, Within, cycle, clifford}
 use Rattle.exact.specs.Algebra.Solver.{var, con, _⊗_, exprs}
 use Rattle.exact.specs.Algebra.Omega.{omegas-laws}
@@ -231,6 +231,14 @@ tail-fronts = record { sends = sends; sends-back = back; no-tee = none }
 
 pub tail-tees : (t : Tail) → tees (tailWord t) ≡ 0
 tail-tees = spelled-tees frontWord tail-fronts
+
+-- with the I of an empty one
+pub orI-tail-tees : (t : Tail) → tees (orI (tailWord t)) ≡ 0
+orI-tail-tees t = orI-tees (tailWord t) ∙ tail-tees t
+  where
+    orI-tees : (u : List Letter) → tees (orI u) ≡ tees u
+    orI-tees [] = refl
+    orI-tees (l ∷ u) = refl
 
 pub tail-unique : (t r : Tail) → Fits t → Fits r → Same (word (tailWord t)) (word (tailWord r)) → t ≡ r
 tail-unique = spelled-unique frontWord tail-fronts
