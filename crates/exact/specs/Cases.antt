@@ -1,5 +1,6 @@
--- Document 01's cases, computed.
+-- The documents' cases, computed.
 pub mod Letters
 pub mod NormalTest
 pub mod Table
+pub mod PhaseFree
 pub mod Outside

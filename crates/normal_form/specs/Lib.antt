@@ -10,3 +10,4 @@ pub mod Again
 pub mod Alike
 pub mod Identity
 pub mod Phase
+pub mod Freed

@@ -12,7 +12,7 @@ use Rattle.exact.specs.Meaning.Limits.{longest, Accepted}
 use Rattle.exact.specs.Meaning.Lent.{lent}
 use Rattle.exact.specs.Matrices.Same.{Same-of, Same-trans}
 use Rattle.exact.specs.Matrices.Phase.{ws-behind}
-use Rattle.exact.specs.Unique.PhaseFree.{phase-free-tees, phase-free-length, by-omega-same, same-by-omega}
+use Rattle.exact.specs.Unique.PhaseFree.{phase-free-tees, phase-free-length, by-omega-same, same-by-omega, power-named}
 use Rattle.exact.specs.Cases.Letters.{bytes-inj, bytes-length}
 use Rattle.exact.specs.Outcomes.Places.{of-bytes, one-normal}
 use Rattle.exact.specs.Outcomes.Lent.{handed-same}
@@ -48,6 +48,10 @@ module _ (u u′ : List Letter) {old old′ : List ℕ} {r r′ : Written} {new 
         counted DropsPhase o e ∙ ap counts same ∙ sym (counted DropsPhase o′ e′),
         bytes-written DropsPhase o e ∙ ap bytes same ∙ sym (bytes-written DropsPhase o′ e′),
       )
+
+-- the power between two words is one
+pub power-once : (u u′ : List Letter) (d d′ : ByOmega (word u) (word u′)) → d .power ≡ d′ .power
+power-once u u′ d d′ = power-named (answers false u) (answers false u′) d ∙ sym (power-named (answers false u) (answers false u′) d′)
 
 -- ---- words that differ by a phase have one outcome, refusal 7 among them
 turned : (u u′ : List Letter) → ByOmega (word u) (word u′) → (v : List Letter) → DropsPhase u v → DropsPhase u′ v

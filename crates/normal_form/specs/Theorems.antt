@@ -1,7 +1,7 @@
 -- What follows from the outcomes of jobs 3 and 5: they are unique, a normal word always exists and has the fewest T letters, document 01's
 -- table of cases, and that no useless program meets them. Assumes nothing.
 use mathlib.Core.Path.{_≡_, refl, ap}
-use mathlib.Core.Bool.{Bool, true, _&&_}
+use mathlib.Core.Bool.{true, _&&_}
 use mathlib.Core.List.{List, [], _∷_, _++_}
 use Prim.Native.Nat.{ℕ, zero, suc, _<_, _≤_}
 use native.Mathlib.Omega.{arith}
@@ -16,9 +16,10 @@ use Rattle.exact.specs.Meaning.Lent.{Lent, lent, over, untouched, Writes}
 use Rattle.exact.specs.Matrices.Test.{sameTest, same-by}
 use Rattle.exact.specs.Unique.Normal.{normal-fewest}
 use Rattle.exact.specs.Outcomes.Ladder.{Only, always}
-use Rattle.exact.specs.Cases.Letters.{bytes-inj, bytes-length, none-outside}
-use Rattle.exact.specs.Cases.NormalTest.{shapeOf, normalTest, normal-by, phase-free-by}
-use Rattle.exact.specs.Cases.Table.{Row, Each, cases, Normalised, all-cases}
+use Rattle.exact.specs.Cases.Letters.{bytes-inj, bytes-length, none-outside, eqWord}
+use Rattle.exact.specs.Cases.NormalTest.{shapeOf, normalTest, normal-by}
+use Rattle.exact.specs.Cases.Table.{Row, Each, each-more, cases, Normalised, all-cases}
+use Rattle.exact.specs.Cases.PhaseFree.{Freed, wordTest, freedTest, freed-by}
 use Rattle.exact.specs.Outcomes.Lent.{handed-same, bytes-same}
 use Rattle.normal_form.specs.declared.Written.{Written}
 use Rattle.normal_form.specs.Meaning.{Normalises, DropsPhase, refused, counts, wordRefusals, WordOutcome, NormaliseOutcome, PhaseFreeOutcome}
@@ -83,21 +84,14 @@ pub record CaseMet (r : Row) : Type 0 where
   pub met : (old : List ℕ) → length (bytes (r .right)) ≤ length old
       → NormaliseOutcome (bytes (r .left)) old (counts (r .right)) (over (bytes (r .right)) old)
 
-abbrev every : List Row → Bool
-every [] = true
-every (r ∷ rs) = leb (length (r .left)) longest && every rs
-
-each-met : (rs : List Row) → Each Normalised rs → T (every rs) → Each CaseMet rs
-each-met [] e t = tt
-each-met (r ∷ rs) e t =
-    let s = and-yes (leb (length (r .left)) longest) (every rs) t in
-    let few = leb→le (length (r .left)) longest (s .0) in
-    let a : Normalises (r .left) (r .right) = record { normal = e .0 .normal; same = e .0 .same } in
-    (record { met = λ old. fits Normalises normalises-single (r .left) (r .right) old few a }, each-met rs (e .1) (s .1))
+case-met : (r : Row) → T (leb (length (r .left)) longest) → Normalised r → CaseMet r
+case-met r t e =
+    let a : Normalises (r .left) (r .right) = record { normal = e .normal; same = e .same } in
+    record { met = λ old. fits Normalises normalises-single (r .left) (r .right) old (leb→le (length (r .left)) longest t) a }
 
 pub cases-met : Each CaseMet cases
 unfolding cases
-cases-met = each-met cases all-cases tt
+cases-met = each-more (λ r. leb (length (r .left)) longest) Normalised CaseMet case-met cases tt all-cases
 
 -- ---- useless programs, each refuted at an input
 normalised : (u v : List Letter) → T (normalTest v && sameTest (word u) (word v)) → Normalises u v
@@ -105,10 +99,12 @@ normalised u v t =
     let s = and-yes (normalTest v) (sameTest (word u) (word v)) t in
     record { normal = normal-by v (s .0); same = same-by (word u) (word v) (s .1) }
 
-freed : (u v x : List Letter) → T (normalTest v && sameTest (word u) (word v)) → spell (withoutW (shapeOf v)) ≡ x → DropsPhase u x
-freed u v x t e =
-    let s = and-yes (normalTest v) (sameTest (word u) (word v)) t in
-    record { whole = v; phase-free = phase-free-by v x (s .0) e; same = same-by (word u) (word v) (s .1) }
+-- v the normal word, x the phase-free one
+abbrev pub row : List Letter → List Letter → List Letter → Freed
+row u v x = record { letters = u; normal = v; freed = x }
+
+pub freed : (u v x : List Letter) → T (freedTest (row u v x)) → DropsPhase u x
+freed u v x t = freed-by (row u v x) t .is
 
 -- a program's answer for a word u, where the right answer v fits, is v
 module _ (u v : List Letter) (old : List ℕ) (t : length u ≤ longest) (l : length (bytes v) ≤ length old) {r : Written} {new : List ℕ} where
@@ -148,7 +144,7 @@ refuses-all-3 r new o =
 
 pub refuses-all-5 : (r : Written) (new : List ℕ) → PhaseFreeOutcome [] (dots 1) r new → r .refusal ≡ 0
 refuses-all-5 r new o =
-    let a = freed none (I ∷ []) (I ∷ []) tt refl in
+    let a = freed none (I ∷ []) (I ∷ []) tt in
     ap (λ (x : Written). x .refusal) (handed-same (job5-only none (I ∷ []) (dots 1) (omega arith) (omega arith) a o))
 
 -- ---- always I
@@ -156,7 +152,7 @@ T-normalised : Normalises one-T (T′ ∷ I ∷ [])
 T-normalised = normalised one-T (T′ ∷ I ∷ []) tt
 
 T-freed : DropsPhase one-T (T′ ∷ I ∷ [])
-T-freed = freed one-T (T′ ∷ I ∷ []) (T′ ∷ I ∷ []) tt refl
+T-freed = freed one-T (T′ ∷ I ∷ []) (T′ ∷ I ∷ []) tt
 
 pub always-I-3 : (r : Written) → NormaliseOutcome (bytes one-T) (dots 2) r (bytes (I ∷ []) ++ dots 1) → ⊥
 always-I-3 r o = omega (arith, first-same (job3-only one-T (T′ ∷ I ∷ []) (dots 2) (omega arith) (omega arith) T-normalised o))
@@ -169,15 +165,21 @@ pub copied-3 : (r : Written) → NormaliseOutcome (bytes two-T) (dots 2) r (byte
 copied-3 r o = omega (arith, first-same (job3-only two-T (S ∷ []) (dots 2) (omega arith) (omega arith) (normalised two-T (S ∷ []) tt) o))
 
 pub copied-5 : (r : Written) → PhaseFreeOutcome (bytes two-T) (dots 2) r (bytes two-T) → ⊥
-copied-5 r o = omega (arith, first-same (job5-only two-T (S ∷ []) (dots 2) (omega arith) (omega arith) (freed two-T (S ∷ []) (S ∷ []) tt refl) o))
+copied-5 r o = omega (arith, first-same (job5-only two-T (S ∷ []) (dots 2) (omega arith) (omega arith) (freed two-T (S ∷ []) (S ∷ []) tt) o))
 
 -- ---- the first hundred letters normalised, and the others copied: those hundred are WWWW
 pub first-hundred : Normalises (times 100 W) (times 4 W)
 first-hundred = normalised (times 100 W) (times 4 W) tt
 
-whole-hundred : T (normalTest (S ∷ times 4 W) && sameTest (word hundred) (word (S ∷ times 4 W)))
+abbrev hundred-row : Freed
+hundred-row = row hundred (S ∷ times 4 W) (S ∷ [])
+
+whole-hundred : T (freedTest hundred-row)
 unfolding hundred
 whole-hundred = tt
+
+normal-hundred : T (wordTest hundred-row)
+normal-hundred = and-yes (wordTest hundred-row) (eqWord (spell (withoutW (shapeOf (S ∷ times 4 W)))) (S ∷ [])) whole-hundred .0
 
 short-hundred : length hundred ≤ longest
 unfolding hundred
@@ -185,12 +187,12 @@ short-hundred = leb→le (length hundred) longest tt
 
 pub first-letters-3 : (r : Written) → NormaliseOutcome (bytes hundred) (dots 8) r (bytes (times 4 W ++ two-T) ++ dots 2) → ⊥
 first-letters-3 r o =
-    let a = normalised hundred (S ∷ times 4 W) whole-hundred in
+    let a = normalised hundred (S ∷ times 4 W) normal-hundred in
     omega (arith, first-same (job3-only hundred (S ∷ times 4 W) (dots 8) short-hundred (omega arith) a o))
 
 pub first-letters-5 : (r : Written) → PhaseFreeOutcome (bytes hundred) (dots 8) r (bytes two-T ++ dots 6) → ⊥
 first-letters-5 r o =
-    let a = freed hundred (S ∷ times 4 W) (S ∷ []) whole-hundred refl in
+    let a = freed hundred (S ∷ times 4 W) (S ∷ []) whole-hundred in
     omega (arith, first-same (job5-only hundred (S ∷ []) (dots 8) short-hundred (omega arith) a o))
 
 -- ---- a T count one too high

@@ -20,17 +20,23 @@ pub record Row : Type 0 where
   pub right : List Letter
 
 -- what holds of each row of a table, and its test
-abbrev pub Each : (Row → Type 0) → List Row → Type 0
+abbrev pub Each : {R : Type 0} → (R → Type 0) → List R → Type 0
 Each P [] = Unit {0}
 Each P (r ∷ rs) = P r × Each P rs
 
-abbrev every : (Row → Bool) → List Row → Bool
+abbrev pub every : {R : Type 0} → (R → Bool) → List R → Bool
 every f [] = true
 every f (r ∷ rs) = f r && every f rs
 
-each : (f : Row → Bool) (P : Row → Type 0) → ((r : Row) → T (f r) → P r) → (rs : List Row) → T (every f rs) → Each P rs
+pub each : {R : Type 0} (f : R → Bool) (P : R → Type 0) → ((r : R) → T (f r) → P r) → (rs : List R) → T (every f rs) → Each P rs
 each f P g [] t = tt
 each f P g (r ∷ rs) t = let s = and-yes (f r) (every f rs) t in (g r (s .0), each f P g rs (s .1))
+
+-- from what holds of each row, and a test
+pub each-more : {R : Type 0} (f : R → Bool) (P Q : R → Type 0) → ((r : R) → T (f r) → P r → Q r) → (rs : List R) → T (every f rs) → Each P rs
+    → Each Q rs
+each-more f P Q g [] t e = tt
+each-more f P Q g (r ∷ rs) t e = let s = and-yes (f r) (every f rs) t in (g r (s .0) (e .0), each-more f P Q g rs (s .1) (e .1))
 
 -- ---- the reading order: TH has rows [1, 1] and [omega, -omega] over root two
 abbrev tee-aitch : Matrix

@@ -9,12 +9,11 @@ use lib.ListN.{length, length-append}
 use Rattle.exact.specs.Meaning.Number.{omega^}
 use Rattle.exact.specs.Meaning.Matrix.{Matrix, Same, scaled, ByOmega}
 use Rattle.exact.specs.Meaning.Word.{Letter, H, S, X, W, T′, word, tees}
-use Rattle.exact.specs.Meaning.Normal.{Syllable, HT, SHT, nothing, Tail, Shape, times, frontWord, tailWord, orI, after, leading, spell, Fits}
+use Rattle.exact.specs.Meaning.Normal.{Syllable, HT, SHT, Tail, Shape, times, frontWord, tailWord, orI, after, leading, spell, Fits}
 use Rattle.exact.specs.Meaning.Normal.{Normal, noW, withoutW, PhaseFree, PhaseFreeOf}
 use Rattle.exact.specs.Matrices.Same.{Same-of, Same-sym, Same-trans}
-use Rattle.exact.specs.Matrices.Words.{strike-word}
 use Rattle.exact.specs.Matrices.Phase.{scaled-same, omega-one, omega-twice, omega-mod, ws-behind}
-use Rattle.exact.specs.Unique.Tails.{orI-tail-tees, tail-unique}
+use Rattle.exact.specs.Unique.Tails.{orI-tail-tees}
 use Rattle.exact.specs.Unique.Normal.{coreOf, spell-word, shape-unique}
 
 -- ---- a tail's letters: those without W, and then the W letters
@@ -83,6 +82,12 @@ spell-length n =
 noW-fits : {t : Tail} → Fits t → Fits (noW t)
 noW-fits f = record { xs-few = f .xs-few; ss-few = f .ss-few; ws-few = omega arith }
 
+-- so many W letters in place of a shape's own
+abbrev with-ws : ℕ → Shape → Shape
+with-ws k n =
+    let t = n .tail in
+    record { lead = n .lead; syllables = n .syllables; tail = record { front = t .front; xs = t .xs; ss = t .ss; ws = k } }
+
 -- u is the phase-free word of the normal word v
 module _ {u v : List Letter} (f : PhaseFree u v) where
   pub phase-free-normal : Normal u
@@ -97,6 +102,10 @@ module _ {u v : List Letter} (f : PhaseFree u v) where
   pub phase-free-own : PhaseFree u u
   unfolding phase-free-normal
   phase-free-own = record { normal = phase-free-normal; spelled = f .spelled }
+
+-- a normal word with no W in its tail is its own
+pub normal-own : {u : List Letter} (n : Normal u) → n .shape .tail .ws ≡ 0 → PhaseFree u u
+normal-own n e = record { normal = n; spelled = ap (λ k. spell (with-ws k (n .shape))) (sym e) ∙ n .spelled }
 
 -- ---- the matrix: a power of omega times the phase-free word's
 spell-phase : (n : Shape) → word (spell n) ≡ scaled (omega^ (n .tail .ws)) (word (spell (withoutW n)))
@@ -113,12 +122,6 @@ further k n =
     ap (scaled (omega^ k)) (spell-phase n) ∙ omega-twice k (n .tail .ws) u ∙ omega-mod (k + n .tail .ws) u
 
 -- ---- the same phase-free word, and a power of omega between the matrices
--- so many W letters in place of a shape's own
-abbrev with-ws : ℕ → Shape → Shape
-with-ws k n =
-    let t = n .tail in
-    record { lead = n .lead; syllables = n .syllables; tail = record { front = t .front; xs = t .xs; ss = t .ss; ws = k } }
-
 module _ {x y : Matrix} {u v : List Letter} (p : PhaseFreeOf x u) (q : PhaseFreeOf y v) where
   abbrev m : Shape
   m = p .phase-free .normal .shape
@@ -132,8 +135,10 @@ module _ {x y : Matrix} {u v : List Letter} (p : PhaseFreeOf x u) (q : PhaseFree
   scaled-y : (k : ℕ) → Same (scaled (omega^ k) y) (scaled (omega^ ((k + n .tail .ws) % 8)) (word (spell (withoutW n))))
   scaled-y k = Same-trans (scaled-same (omega^ k) (rw (q .phase-free .normal .spelled) (q .same))) (Same-of (further k n))
 
-  pub by-omega-same : ByOmega x y → u ≡ v
-  by-omega-same d = sym (p .phase-free .spelled) ∙ ap (λ s. spell (withoutW s)) shapes ∙ q .phase-free .spelled
+  shapes : (d : ByOmega x y) → m ≡ with-ws ((d .power + n .tail .ws) % 8) n
+  shapes d =
+      shape-unique m turned (p .phase-free .normal .fits) fits
+      (Same-trans (Same-sym x-is) (Same-trans (d .same) (Same-trans (scaled-y (d .power)) (Same-of (sym (spell-phase turned))))))
     where
       turned : Shape
       turned = with-ws ((d .power + n .tail .ws) % 8) n
@@ -141,42 +146,29 @@ module _ {x y : Matrix} {u v : List Letter} (p : PhaseFreeOf x u) (q : PhaseFree
       fits : Fits (turned .tail)
       fits = let f = q .phase-free .normal .fits in record { xs-few = f .xs-few; ss-few = f .ss-few; ws-few = omega arith }
 
-      shapes : m ≡ turned
-      shapes =
-          shape-unique m turned (p .phase-free .normal .fits) fits
-          (Same-trans (Same-sym x-is) (Same-trans (d .same) (Same-trans (scaled-y (d .power)) (Same-of (sym (spell-phase turned))))))
+  pub by-omega-same : ByOmega x y → u ≡ v
+  by-omega-same d = sym (p .phase-free .spelled) ∙ ap (λ s. spell (withoutW s)) (shapes d) ∙ q .phase-free .spelled
 
-  -- the power is by how many W letters the normal words differ
+  -- by how many W letters the normal words differ, up to 8
+  abbrev pub apart : ℕ
+  apart = (m .tail .ws + (8 - n .tail .ws)) % 8
+
+  round : m .tail .ws ≡ (apart + n .tail .ws) % 8
+  round = omega (arith, p .phase-free .normal .fits .ws-few, q .phase-free .normal .fits .ws-few)
+
   pub same-by-omega : u ≡ v → ByOmega x y
-  same-by-omega e = record { power = power; few = omega arith; same = Same-trans x-is (Same-trans (Same-of words) (Same-sym (scaled-y power))) }
+  same-by-omega e = record { power = apart; few = omega arith; same = Same-trans x-is (Same-trans (Same-of words) (Same-sym (scaled-y apart))) }
     where
-      power : ℕ
-      power = (m .tail .ws + (8 - n .tail .ws)) % 8
-
-      round : m .tail .ws ≡ (power + n .tail .ws) % 8
-      round = omega (arith, p .phase-free .normal .fits .ws-few, q .phase-free .normal .fits .ws-few)
-
-      words : word (spell m) ≡ scaled (omega^ ((power + n .tail .ws) % 8)) (word (spell (withoutW n)))
+      words : word (spell m) ≡ scaled (omega^ ((apart + n .tail .ws) % 8)) (word (spell (withoutW n)))
       words =
           spell-phase m
           ∙ ap (λ s. scaled (omega^ (m .tail .ws)) (word s)) (p .phase-free .spelled ∙ e ∙ sym (q .phase-free .spelled))
           ∙ ap (λ k. scaled (omega^ k) (word (spell (withoutW n)))) round
 
--- so a matrix has one
+  -- it is the only power
+  pub power-named : (d : ByOmega x y) → d .power ≡ apart
+  power-named d = omega (arith, d .few, q .phase-free .normal .fits .ws-few, ap (λ (s : Shape). s .tail .ws) (shapes d))
+
+-- so a matrix has one phase-free word
 pub phase-free-once : {x : Matrix} {u v : List Letter} → PhaseFreeOf x u → PhaseFreeOf x v → u ≡ v
 phase-free-once {x} p q = by-omega-same p q (record { power = 0; few = omega arith; same = Same-of (sym (omega-one x)) })
-
--- ---- there is one such power
-abbrev ws-tail : ℕ → Tail
-ws-tail k = record { front = nothing; xs = 0; ss = 0; ws = k }
-
-pub power-once : {x : Matrix} (v : List Letter) (d e : ByOmega x (word v)) → d .power ≡ e .power
-power-once v d e =
-    ap (λ (t : Tail). t .ws)
-    (tail-unique (ws-tail (d .power)) (ws-tail (e .power)) (fits d) (fits e)
-    (strike-word v (times (d .power) W) (times (e .power) W)
-    (Same-trans (Same-of (ws-behind v (d .power)))
-    (Same-trans (Same-sym (d .same)) (Same-trans (e .same) (Same-of (sym (ws-behind v (e .power)))))))))
-  where
-    fits : {x y : Matrix} (d : ByOmega x y) → Fits (ws-tail (d .power))
-    fits d = record { xs-few = omega arith; ss-few = omega arith; ws-few = d .few }
