@@ -27,7 +27,7 @@ static void word(const char *what, uint8_t refusal, const uint8_t *buf, const ui
 
 static void words(void)
 {
-    const uint8_t *hsh = (const uint8_t *)"HSH", *shtt = (const uint8_t *)"SHTT";
+    const uint8_t *hsh = (const uint8_t *)"HSH", *shtt = (const uint8_t *)"SHTT", *tw = (const uint8_t *)"TW";
     const int64_t x[8] = {0, 0, 0, 0, 0, 0, 0, 1}, t[8] = {0, 0, 0, 1};
     uint8_t buf[DUNROSSEL_ENOUGH];
     uint64_t out[3];
@@ -35,6 +35,8 @@ static void words(void)
     word("normalise HSH", refusal, buf, out, "SHXSSSW");
     refusal = dunrossel_phase_free(hsh, 3, buf, sizeof buf, out);
     word("phase-free HSH", refusal, buf, out, "SHXSSS");
+    refusal = dunrossel_phase_free(tw, 2, buf, sizeof buf, out);
+    word("phase-free TW", refusal, buf, out, "TI");
     refusal = dunrossel_normalise(shtt, 4, buf, sizeof buf, out);
     word("normalise SHTT", refusal, buf, out, "SHS");
     refusal = dunrossel_synthesise(0, 4, x, buf, sizeof buf, out);

@@ -159,7 +159,8 @@ fn main() {
         assert_eq!(synthesise(&m, ENOUGH).as_deref(), Ok(normal));
     }
     assert_eq!(phase_free("HSH", 6).as_deref(), Ok("SHXSSS"));
-    assert_eq!((phase_free("TW", 1), normalise("T", 2)), (Ok("T".into()), Ok("TI".into())));
+    assert_eq!((phase_free("T", 2), phase_free("TW", 2)), (Ok("TI".into()), Ok("TI".into())));
+    assert_eq!((phase_free("W", 1), phase_free("TW", 1)), (Ok("I".into()), Err(Refused { number: 7, place: 0 })));
     assert_eq!(normalise("T", 1), Err(Refused { number: 7, place: 0 }));
     assert_eq!(normalise(&"T".repeat(4097), ENOUGH), Err(Refused { number: 1, place: 0 }));
     assert_eq!(matrix("HTZ"), Err(Refused { number: 2, place: 2 }));

@@ -60,9 +60,11 @@ uint8_t dunrossel_matrix(const uint8_t *word, size_t len, int64_t out[10], uint6
  * Refuses 1, 2, 7. */
 uint8_t dunrossel_normalise(const uint8_t *word, size_t len, uint8_t *buf, size_t room, uint64_t out[3]);
 
-/* The same without the normal word's final W letters: the matrix up to a power of omega. Handed in again, to this call or
- * to dunrossel_normalise, such a word is given back, with an I behind it where it is empty or ends in T. Refuses 1, 2, 7
- * (7 by the shorter word). */
+/* Writes the phase-free word: the normal word with no W in its tail, a tail that this leaves empty being I. So W gives I, and
+ * T and TW both give TI. Two words give the same bytes exactly when their matrices differ by a power of omega. It is itself
+ * a normal word, with as many T as dunrossel_normalise's and no more bytes; at most 4,096 letters long, it is given back as
+ * it is by both calls. out as there.
+ * Refuses 1, 2, 7 (7 by the phase-free word's length). */
 uint8_t dunrossel_phase_free(const uint8_t *word, size_t len, uint8_t *buf, size_t room, uint64_t out[3]);
 
 /* Writes the normal word of a matrix, reduced or not, into buf: at most 6k+16 bytes, k reduced, and the bytes that

@@ -2,3 +2,4 @@
 pub mod Tails
 pub mod Normal
 pub mod PhaseFree
+pub mod NoW
