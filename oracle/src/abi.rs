@@ -57,7 +57,7 @@ pub const JOBS: [Job; 13] = [
 ];
 
 /// The refusal number; one of the numbers; the first byte of the lent buffer; the first byte beyond the length;
-/// the byte after the lent memory.
+/// the byte after the lent memory; the whole answer of job 5.
 #[derive(Clone, Copy, PartialEq, Eq, Debug)]
 pub enum Part {
     Refusal,
@@ -65,7 +65,21 @@ pub enum Part {
     Byte,
     Beyond,
     After,
+    Whole(Fault),
 }
+
+/// What a faulty job 5 would answer: an empty tail written as nothing; an I behind a tail that has letters; a W left;
+/// an answer a byte too long taken for one that fits, its I not counted; the answer of the accepted call before.
+#[derive(Clone, Copy, PartialEq, Eq, Debug)]
+pub enum Fault {
+    Nothing,
+    Identity,
+    Phase,
+    Room,
+    Stale,
+}
+
+pub const FAULTS: [Fault; 5] = [Fault::Nothing, Fault::Identity, Fault::Phase, Fault::Room, Fault::Stale];
 
 struct State {
     library: Library,
@@ -73,8 +87,9 @@ struct State {
     length: usize,
     result: u64,
     plant: Option<Plant>,
-    planted_on: Vec<u8>,
-    calls: [u64; JOBS.len()],
+    planted_on: Option<Vec<u8>>,
+    calls: u64,
+    before: Option<Vec<u8>>,
 }
 
 thread_local! {
@@ -84,29 +99,86 @@ thread_local! {
         length: 0,
         result: 0,
         plant: None,
-        planted_on: Vec::new(),
-        calls: [0; JOBS.len()],
+        planted_on: None,
+        calls: 0,
+        before: None,
     });
 }
 
 pub fn set_plant(plant: Option<Plant>) {
     STATE.with_borrow_mut(|s| {
         s.plant = plant;
-        s.planted_on.clear();
-        s.calls = [0; JOBS.len()];
+        s.planted_on = None;
+        s.calls = 0;
+        s.before = None;
     })
 }
 
-/// The input of the call whose answer was spoilt.
-pub fn planted_on() -> Vec<u8> {
+/// The input of the call whose answer was spoilt, if one was.
+pub fn planted_on() -> Option<Vec<u8>> {
     STATE.with_borrow(|s| s.planted_on.clone())
 }
 
 impl State {
-    /// The part to spoil in this call's answer, if any.
-    fn turn(&mut self, job: Job) -> Option<Part> {
-        self.calls[job as usize] += 1;
-        self.plant.filter(|p| p.job == job && p.call == self.calls[job as usize]).map(|p| p.part)
+    /// The part to spoil in this call's answer, if any. A fault's calls are those that it answers otherwise.
+    fn turn(&mut self, job: Job, args: &[Word]) -> Option<Part> {
+        let plant = self.plant.filter(|p| p.job == job)?;
+        let wrong = match plant.part {
+            Part::Whole(fault) => Some(self.faulty(fault, args)?),
+            _ => None,
+        };
+        self.calls += 1;
+        if self.calls != plant.call {
+            return None;
+        }
+        if let Some(word) = wrong {
+            self.hand(&word);
+        }
+        Some(plant.part)
+    }
+
+    /// The word that a faulty job 5 would hand back, where that is no right answer.
+    fn faulty(&mut self, fault: Fault, args: &[Word]) -> Option<Vec<u8>> {
+        let word = self.handed();
+        let accepted = self.result == 0;
+        let kept = word.strip_suffix(b"I");
+        let wrong = match fault {
+            Fault::Nothing if accepted => kept?.to_vec(),
+            Fault::Identity if accepted && kept.is_none() => [&word, b"I".as_slice()].concat(),
+            Fault::Phase if accepted => [kept.unwrap_or(&word), b"W"].concat(),
+            Fault::Room if self.result == 7 => self.with_a_byte_more(args).strip_suffix(b"I")?.to_vec(),
+            Fault::Stale if accepted => self.before.replace(word.clone())?,
+            _ => return None,
+        };
+        (wrong.len() <= self.lent && (!accepted || wrong != word)).then_some(wrong)
+    }
+
+    /// What job 5 hands back with a byte more room; its refusal without is then as it was.
+    fn with_a_byte_more(&mut self, args: &[Word]) -> Vec<u8> {
+        let mut more = args.to_vec();
+        more[3] = Word::Number(self.lent as u64 + 1);
+        self.library.call(Job::PhaseFree, &more);
+        let word = self.handed();
+        self.lend(self.lent, self.length);
+        self.library.call(Job::PhaseFree, args);
+        word
+    }
+
+    /// Puts a word into the lent memory and its counts into the out array, as an accepted call does.
+    fn hand(&mut self, word: &[u8]) {
+        self.lend(self.lent, self.length);
+        self.result = 0;
+        let numbers = Written { refusal: 0, place: 0, word: word.to_vec() }.numbers();
+        let memory = self.library.memory();
+        memory[LENT + GUARD..LENT + GUARD + word.len()].copy_from_slice(word);
+        memory[OUT..OUT + 24].copy_from_slice(&bytes::<8, u64, 24>(&numbers, u64::to_ne_bytes));
+    }
+
+    /// The bytes that a job which writes a word has handed back: as many as it says, to one beyond what was lent.
+    fn handed(&mut self) -> Vec<u8> {
+        let memory = self.library.memory();
+        let count = u64::read(&memory[OUT + 8..OUT + 16]) as usize;
+        memory[LENT + GUARD..LENT + GUARD + count.min(self.lent + 1)].to_vec()
     }
 
     /// Puts a call's input, fills what it may write, calls, and plants what is to be planted. None where a guard
@@ -115,9 +187,9 @@ impl State {
         self.library.memory()[IN..IN + input.len()].copy_from_slice(input);
         self.library.memory()[OUT..OUT + OUT_BYTES].fill(STALE);
         self.result = self.library.call(job, args);
-        let part = self.turn(job);
+        let part = self.turn(job, args);
         if part.is_some() {
-            self.planted_on = input.to_vec();
+            self.planted_on = Some(input.to_vec());
         }
         let memory = self.library.memory();
         let mut refusal = self.result as u8;
@@ -251,9 +323,12 @@ impl Written {
     }
 
     pub fn numbers(&self) -> [u64; 3] {
-        let t = self.word.iter().filter(|g| **g == b'T').count();
-        [self.place, self.word.len() as u64, t as u64]
+        [self.place, self.word.len() as u64, tees(&self.word)]
     }
+}
+
+pub fn tees(word: &[u8]) -> u64 {
+    word.iter().filter(|g| **g == b'T').count() as u64
 }
 
 /// Calls a job that writes into lent memory and has N numbers, and compares everything it can have changed; the
@@ -291,6 +366,11 @@ pub fn synthesise(k: i64, n: u8, zw: &[i64; 8], room: usize, expected: &Written)
     let (input, [k, n, zw, out]) = triple(k, n, zw);
     let args = [k, n, zw, Word::At(LENT + GUARD), Word::Number(room as u64), out];
     writes::<3>(Job::Synthesise, room, expected, &input, &args)
+}
+
+/// What the last call of a job that writes a word handed back.
+pub fn handed() -> Vec<u8> {
+    STATE.with_borrow_mut(|s| s.handed())
 }
 
 /// A word written as a circuit, or a circuit's text read.

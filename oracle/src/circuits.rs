@@ -2,10 +2,10 @@
 
 use crate::abi::{self, Job, Written};
 use crate::exact::Matrix;
-use crate::inputs::without_identity;
+use crate::inputs::{without_identity, LONGEST};
 use crate::qasm::{self, Edition, EDITIONS};
 use crate::report::Report;
-use crate::words::{fitting, refusal, rooms, Rooms, ENOUGH, LONGEST};
+use crate::words::{fitting, refusal, rooms, Rooms, ENOUGH};
 
 /// The bytes of an answer given room, or a refusal and its place.
 pub type Answered = Result<Vec<u8>, (u8, usize)>;

@@ -14,6 +14,7 @@ mod identity_runs;
 mod inputs;
 mod integers;
 mod library;
+mod phase_runs;
 mod plants;
 mod qasm;
 mod records;
@@ -26,6 +27,7 @@ mod triples;
 mod view;
 mod words;
 
+use inputs::LONGEST;
 use report::Report;
 use std::process::ExitCode;
 use std::time::Instant;
@@ -48,6 +50,11 @@ fn every_run(report: &mut Report) {
     timed(report, "I at every place of long words", identity_runs::every_place);
     timed(report, "normal words given back", |r| identity_runs::given_back(r, 5, 2000));
     timed(report, "words with I normalised twice", |r| identity_runs::twice(r, 2000));
+    timed(report, "phase-free words, said word for word", phase_runs::named);
+    timed(report, "phase-free words of every tail", |r| phase_runs::every_tail(r, 3));
+    timed(report, "phase-free words of every word of up to 5 letters", |r| phase_runs::every_word(r, 5));
+    timed(report, "phase-free words of random words and their changes", |r| phase_runs::changed(r, 10_000, 100));
+    timed(report, "phase-free words of long words and their changes", |r| phase_runs::changed(r, 500, LONGEST));
     timed(report, "triples at the edges", runs::triple_edges);
     timed(report, "triples of up to 4 T", |r| runs::few_t(r, 4));
     timed(report, "random triples to exponent 60", |r| runs::deep(r, 60));
@@ -101,6 +108,6 @@ fn usage() -> ExitCode {
     eprintln!("compare [--plant JOB:CALL:PART | --sample DIR]");
     eprintln!("JOB: reduce matrix normalise phasefree synthesise product inverse coset view bench");
     eprintln!("     qasm2write qasm3write qasmread");
-    eprintln!("PART: refusal, number, byte, beyond, after");
+    eprintln!("PART: refusal, number, byte, beyond, after; of phasefree also nothing, identity, phase, room, stale");
     ExitCode::from(2)
 }

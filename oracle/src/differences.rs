@@ -51,6 +51,15 @@ pub fn all(report: &mut Report) {
             && abi::normalise(b"I", 1, &word("I")).is_none()
             && abi::phase_free(b"I", 1, &word("I")).is_none(),
     );
+    let less_final_w = |w: &str| given(w).map(|v| v.trim_end_matches('W').to_string());
+    say(
+        report,
+        "listed: job 5's W is nothing and TW is T by document 01, I and TI here by document 02",
+        less_final_w("W").as_deref() == Some("")
+            && less_final_w("TW").as_deref() == Some("T")
+            && abi::phase_free(b"W", 1, &word("I")).is_none()
+            && abi::phase_free(b"TW", 2, &word("TI")).is_none(),
+    );
     say(
         report,
         "listed: another byte in a word panics in the Rust, is refused 2 here",

@@ -107,6 +107,16 @@ impl Matrix {
         word.iter().rev().fold(Matrix::identity(), |m, g| m.under(*g))
     }
 
+    /// The power of omega that the other, reduced too, is this one times; none where they differ by more.
+    pub fn phase_to(&self, other: &Matrix) -> Option<u8> {
+        let by = |power: u8| self.e.iter().zip(&other.e).all(|(x, y)| x.times_omega(power) == *y);
+        if self.k == other.k {
+            (0..8).find(|power| by(*power))
+        } else {
+            None
+        }
+    }
+
     pub fn times(&self, r: &Matrix) -> Matrix {
         let at = |i: usize, j: usize| self.e[2 * i].times(&r.e[j]).add(&self.e[2 * i + 1].times(&r.e[2 + j]));
         Matrix { e: [at(0, 0), at(0, 1), at(1, 0), at(1, 1)], k: self.k + r.k }.reduced()

@@ -2,11 +2,11 @@
 
 use crate::abi;
 use crate::exact::{word_within, Matrix};
-use crate::inputs::{closed, syllables, tails, Random, LETTERS, PLAIN};
+use crate::inputs::{normal_word, put, syllables, tail_at, tails, Random, LETTERS, LONGEST, PLAIN};
 use crate::report::Report;
 use crate::runs::word;
 use crate::triples::synthesised;
-use crate::words::{self, fitting, less_final_w, Normal, Rooms, DEEPEST, ENOUGH, LONGEST};
+use crate::words::{self, fitting, phase_free, Normal, Rooms, DEEPEST, ENOUGH};
 
 /// A word whose normal word, or refusal, is said here too.
 fn said(report: &mut Report, w: &[u8], answer: Result<&[u8], (u8, usize)>) {
@@ -87,19 +87,12 @@ impl Known {
     /// An I at every place, and several at random ones.
     fn everywhere(&self, report: &mut Report, random: &mut Random) {
         for at in 0..=self.word.len() {
-            self.same(report, &put(&self.word, at));
+            self.same(report, &put(&self.word, at, b'I'));
         }
-        let room = LONGEST - self.word.len();
         for _ in 0..100 {
-            let more = 1 + random.below(room.min(30));
-            let with = (0..more).fold(self.word.clone(), |w, _| put(&w, random.below(w.len() + 1)));
-            self.same(report, &with);
+            self.same(report, &random.with_more(&self.word, b'I', 30));
         }
     }
-}
-
-fn put(word: &[u8], at: usize) -> Vec<u8> {
-    [&word[..at], b"I", &word[at..]].concat()
 }
 
 /// A word with few T, none of whose endings is too deep for job 2.
@@ -124,7 +117,7 @@ pub fn every_place(report: &mut Report) {
     let longest = calm(&mut random, LONGEST);
     word(report, &longest, Rooms::All);
     for at in 0..=LONGEST {
-        word(report, &put(&longest, at), Rooms::One);
+        word(report, &put(&longest, at, b'I'), Rooms::One);
     }
 }
 
@@ -137,13 +130,13 @@ fn gives(report: &mut Report, w: &[u8], answer: &[u8]) {
     words::written(report, w, &normal, Rooms::Around);
 }
 
-/// A normal word given back as it is, and job 5's word of it with no more than the I of an empty tail.
+/// A normal word given back as it is, and job 5's word of it, which is a normal word too.
 fn back(report: &mut Report, w: &[u8]) {
     report.note("normal words given back as they are", 1);
     gives(report, w, w);
-    let free = less_final_w(w);
-    report.note("phase-free words given back, with an I where they are empty or end in T", 1);
-    gives(report, free, &closed(free));
+    let free = phase_free(w);
+    report.note("phase-free words given back as they are", 1);
+    gives(report, &free, &free);
 }
 
 /// Every normal word with up to `most` T and every tail, and so many random long ones, half of which end in I.
@@ -151,7 +144,7 @@ pub fn given_back(report: &mut Report, most: usize, long: usize) {
     let tails = tails();
     for front in (0..=most).flat_map(syllables) {
         for tail in &tails {
-            back(report, &closed(&[front.as_slice(), tail].concat()));
+            back(report, &normal_word(&front, tail));
         }
     }
     let longest: [(&[u8], &[u8], usize, &[u8]); 3] =
@@ -168,8 +161,8 @@ fn long_normal(random: &mut Random, empty: bool) -> Vec<u8> {
     loop {
         let many = 100 + random.below(1540);
         let w = random.normal(many);
-        let syllables = w.iter().rposition(|g| *g == b'T').map_or(0, |last| last + 1);
-        let whole = closed(if empty { &w[..syllables] } else { &w });
+        let (syllables, tail) = w.split_at(tail_at(&w));
+        let whole = normal_word(syllables, if empty { b"" } else { tail });
         if whole.len() <= LONGEST {
             return whole;
         }
@@ -181,7 +174,7 @@ pub fn twice(report: &mut Report, each: usize) {
     let mut random = Random::new(19);
     for _ in 0..each {
         let len = random.below(400);
-        let w = put(&random.word(LETTERS, len), random.below(len + 1));
+        let w = put(&random.word(LETTERS, len), random.below(len + 1), b'I');
         let once = words::normal(report, &w);
         words::written(report, &w, &once, Rooms::Enough);
         gives(report, &once.word, &once.word);

@@ -1,5 +1,8 @@
 //! The inputs: words, triples and Cliffords, from lists and from one fixed random sequence.
 
+/// Document 01's limit of a word's letters.
+pub const LONGEST: usize = 4096;
+
 pub struct Random(u64);
 
 impl Random {
@@ -26,6 +29,12 @@ impl Random {
 
     pub fn word(&mut self, letters: &[u8], len: usize) -> Vec<u8> {
         (0..len).map(|_| *self.of(letters)).collect()
+    }
+
+    /// A word with 1 to `most` of a letter put in anywhere, and no more than make 4,096 letters.
+    pub fn with_more(&mut self, word: &[u8], letter: u8, most: usize) -> Vec<u8> {
+        let more = 1 + self.below(most.min(LONGEST - word.len()));
+        (0..more).fold(word.to_vec(), |w, _| put(&w, self.below(w.len() + 1), letter))
     }
 
     /// A word whose letters never take the SHT arm: where a T would, another letter stands.
@@ -86,10 +95,18 @@ pub fn tails() -> Vec<Vec<u8>> {
     all
 }
 
-/// A normal word that may lack the I of an empty tail, with it.
-pub fn closed(word: &[u8]) -> Vec<u8> {
-    let open = word.last().map_or(true, |g| *g == b'T');
-    [word, if open { b"I" } else { b"" }].concat()
+/// The normal word of these syllables and these letters of a tail: an empty tail is written I.
+pub fn normal_word(syllables: &[u8], tail: &[u8]) -> Vec<u8> {
+    [syllables, if tail.is_empty() { b"I" } else { tail }].concat()
+}
+
+/// Where a normal word's syllables end, the last of which ends in T, and its tail begins.
+pub fn tail_at(normal: &[u8]) -> usize {
+    normal.iter().rposition(|g| *g == b'T').map_or(0, |last| last + 1)
+}
+
+pub fn put(word: &[u8], at: usize, letter: u8) -> Vec<u8> {
+    [&word[..at], &[letter], &word[at..]].concat()
 }
 
 /// The syllables of every normal word with exactly t letters T.

@@ -1,11 +1,13 @@
-//! Wrong answers planted one at a time, in every part of every job's answer: each must be found.
+//! Wrong answers planted one at a time, in every part of every job's answer, and those of a faulty job 5: each must be
+//! found.
 
-use crate::abi::{planted_on, set_plant, Job, Part, Plant, JOBS};
+use crate::abi::{planted_on, set_plant, Fault, Job, Part, Plant, FAULTS, JOBS};
 use crate::circuit_runs;
 use crate::inputs::cliffords;
 use crate::records::record;
 use crate::report::Report;
-use crate::runs;
+use crate::{phase_runs, runs};
+use std::collections::BTreeSet;
 
 /// From JOB:CALL:PART.
 pub fn parsed(text: &str) -> Option<Plant> {
@@ -17,9 +19,10 @@ pub fn parsed(text: &str) -> Option<Plant> {
         "byte" => Part::Byte,
         "beyond" => Part::Beyond,
         "after" => Part::After,
-        _ => return None,
+        name => Part::Whole(FAULTS.into_iter().find(|f| format!("{f:?}").to_lowercase() == name)?),
     };
-    parts(job).contains(&part).then_some(Plant { job, call: call.parse().ok()?, part })
+    let faulty = job == Job::PhaseFree && matches!(part, Part::Whole(_));
+    (faulty || parts(job).contains(&part)).then_some(Plant { job, call: call.parse().ok()?, part })
 }
 
 fn parts(job: Job) -> Vec<Part> {
@@ -62,7 +65,42 @@ fn small_run(report: &mut Report) {
     }
 }
 
+/// One fault at every fifth of the calls of job 5 that it changes, until there is none left: how many were planted, and
+/// found by the model. `checks` gets the names of all that found one.
+fn fault(fault: Fault, checks: &mut BTreeSet<String>) -> [u32; 2] {
+    let (mut planted, mut found) = (0, 0);
+    for call in (1..).step_by(5) {
+        set_plant(Some(Plant { job: Job::PhaseFree, call, part: Part::Whole(fault) }));
+        let mut report = Report::silent();
+        phase_runs::few(&mut report);
+        let Some(word) = planted_on() else { break };
+        planted += 1;
+        if report.differing.iter().any(|kind| kind.starts_with("job 5 phase-free")) {
+            found += 1;
+        } else {
+            println!("planted in PhaseFree call {call} {fault:?}: not found, {}", word.escape_ascii());
+        }
+        checks.extend(report.differing);
+    }
+    set_plant(None);
+    [planted, found]
+}
+
+fn faults() -> bool {
+    let mut checks = BTreeSet::new();
+    let each = FAULTS.map(|kind| fault(kind, &mut checks));
+    let [planted, found] = [0, 1].map(|i| each.iter().map(|both| both[i]).sum::<u32>());
+    let idle = phase_runs::CHECKS.iter().filter(|check| !checks.contains(**check)).count();
+    println!("planted as a faulty job 5 answers: {planted}; found: {found}; checks besides that found none: {idle}");
+    planted == found && each.iter().all(|both| both[0] > 0) && idle == 0
+}
+
 pub fn all() -> bool {
+    let parts = parts_of_answers();
+    faults() && parts
+}
+
+fn parts_of_answers() -> bool {
     let (mut planted, mut found, mut identities) = (0, 0, 0);
     for job in JOBS {
         for part in parts(job) {
@@ -71,7 +109,7 @@ pub fn all() -> bool {
                 let mut report = Report::silent();
                 small_run(&mut report);
                 planted += 1;
-                identities += (reads_letters(job) && planted_on().contains(&b'I')) as u32;
+                identities += (reads_letters(job) && planted_on().is_some_and(|w| w.contains(&b'I'))) as u32;
                 found += (report.unexplained == 1) as u32;
                 if report.unexplained != 1 {
                     println!("planted in {job:?} call {call} {part:?}: {} found", report.unexplained);

@@ -1,6 +1,6 @@
 //! The counts, one line a kind, and the differences that nothing explains.
 
-use std::collections::BTreeMap;
+use std::collections::{BTreeMap, BTreeSet};
 
 #[derive(Default)]
 pub struct Report {
@@ -8,6 +8,8 @@ pub struct Report {
     notes: BTreeMap<&'static str, u64>,
     firsts: BTreeMap<&'static str, String>,
     pub cases: u64,
+    /// The kinds that differ.
+    pub differing: BTreeSet<String>,
     pub unexplained: u64,
     silent: bool,
 }
@@ -31,6 +33,7 @@ impl Report {
 
     pub fn differs(&mut self, kind: &str, text: String) {
         self.unexplained += 1;
+        self.differing.insert(kind.into());
         if !self.silent && self.unexplained <= SHOWN {
             println!("UNEXPLAINED, {kind}: {text}");
         }

@@ -2,10 +2,10 @@
 //! has the format.
 
 use crate::abi::Written;
-use crate::inputs::{self, cliffords, closed, raised, Random, Triple, LETTERS, PLAIN};
+use crate::inputs::{self, cliffords, normal_word, raised, Random, Triple, LETTERS, LONGEST, PLAIN};
 use crate::report::Report;
 use crate::runs::triple_of;
-use crate::words::{self, fitting, less_final_w};
+use crate::words::{self, fitting, phase_free};
 use crate::{cliffords as job_6, records, rust, sample_circuits, triples};
 use std::process::ExitCode;
 
@@ -43,7 +43,13 @@ impl Sample {
         self.add_lent::<3>(job, room, payload, expected);
     }
 
-    /// Jobs 3 and 5, with this much more or less room than the answer takes.
+    /// A job with this much more or less room than its answer takes.
+    fn fitted(&mut self, job: char, payload: &[u8], answer: &[u8], more: isize) {
+        let room = answer.len().saturating_add_signed(more);
+        self.add_written(job, room, payload, &fitting(answer, room));
+    }
+
+    /// Jobs 3 and 5.
     fn normalise(&mut self, word: &[u8], more: isize) {
         if let Some((number, place)) = words::refusal(word) {
             for job in ['3', '5'] {
@@ -52,10 +58,14 @@ impl Sample {
             return;
         }
         let normal = words::normal(&mut self.report, word).word;
-        for (job, answer) in [('3', normal.as_slice()), ('5', less_final_w(&normal))] {
-            let room = answer.len().saturating_add_signed(more);
-            self.add_written(job, room, word, &fitting(answer, room));
-        }
+        self.fitted('3', word, &normal, more);
+        self.fitted('5', word, &phase_free(&normal), more);
+    }
+
+    /// Job 5 alone, on a word that it accepts.
+    fn shorten(&mut self, word: &[u8], more: isize) {
+        let normal = words::normal(&mut self.report, word).word;
+        self.fitted('5', word, &phase_free(&normal), more);
     }
 
     fn matrix(&mut self, word: &[u8]) {
@@ -74,15 +84,13 @@ impl Sample {
         let reduced = triples::reduced(&mut self.report, triple);
         let (number, numbers) = reduced.map_or_else(|number| (number, [0; 10]), |numbers| (0, numbers));
         self.add('1', 0, &record, format!("{number} {}", joined(&numbers)).as_bytes());
-        let (room, expected) = match reduced {
-            Err(number) => (20, Written::refused(number, 0)),
+        match reduced {
+            Err(number) => self.add_written('4', 20, &record, &Written::refused(number, 0)),
             Ok(numbers) => {
                 let word = triples::synthesised(&mut self.report, &numbers);
-                let room = word.len().saturating_add_signed(more);
-                (room, fitting(&word, room))
+                self.fitted('4', &record, &word, more);
             }
-        };
-        self.add_written('4', room, &record, &expected);
+        }
     }
 
     fn clifford(&mut self, job: char, x: &[i32; 4], y: &[i32; 4], answer: &[i32]) {
@@ -104,9 +112,10 @@ impl Sample {
     }
 }
 
-/// Document 01's cases, every arm, every letter and byte, and each limit of words.
+/// Documents 01 and 02's cases, every arm, every letter and byte, and each limit of words.
 fn words(s: &mut Sample) {
-    for w in ["", "T", "TT", "TTTT", "HH", "HTT", "SHTT", "HSH", "XT", "WT", "HTHT", "W", "TW"] {
+    for w in ["", "T", "TT", "TTTT", "HH", "HTT", "SHTT", "HSH", "XT", "WT", "HTHT", "W", "TW", "WWWWWWWW", "HW", "XSW"]
+    {
         for more in [-1, 0, 1, 9] {
             s.normalise(w.as_bytes(), more);
         }
@@ -158,16 +167,37 @@ fn identities(s: &mut Sample) {
     }
     for (i, tail) in inputs::tails().iter().enumerate() {
         for front in [b"".as_slice(), b"T", b"SHTHT"] {
-            s.normalise(&closed(&[front, tail].concat()), -((i % 7 == 0) as isize));
+            s.normalise(&normal_word(front, tail), -((i % 7 == 0) as isize));
             s.normalise(&[front, b"I", tail, b"I"].concat(), 0);
         }
     }
-    for len in [words::LONGEST, words::LONGEST + 1] {
+    for len in [LONGEST, LONGEST + 1] {
         s.word(&vec![b'I'; len], 0);
     }
-    for long in [[b"HT".repeat(2047), b"XS".to_vec()].concat(), b"HT".repeat(2048), closed(&b"HT".repeat(2048))] {
+    for long in
+        [[b"HT".repeat(2047), b"XS".to_vec()].concat(), b"HT".repeat(2048), normal_word(&b"HT".repeat(2048), b"")]
+    {
         s.normalise(&long, 0);
         s.normalise(&long, -1);
+    }
+}
+
+/// Phase-free words of every tail alone and behind each syllable, and of words with W put in.
+fn phases(s: &mut Sample) {
+    for (i, tail) in inputs::tails().iter().enumerate() {
+        for front in [b"".as_slice(), b"T", b"HT", b"SHT"] {
+            let w = normal_word(front, tail);
+            s.shorten(&w, 0);
+            if i % 5 == 0 {
+                s.shorten(&w, -1);
+            }
+        }
+    }
+    let mut random = Random::new(21);
+    for len in (1..=60).chain([4076, 4095]) {
+        let w = random.word(LETTERS, len);
+        s.shorten(&w, 0);
+        s.shorten(&random.with_more(&w, b'W', 20), 0);
     }
 }
 
@@ -256,6 +286,7 @@ pub fn write(folder: &str) -> ExitCode {
     let mut s = Sample::default();
     words(&mut s);
     identities(&mut s);
+    phases(&mut s);
     pairs(&mut s);
     all_triples(&mut s);
     all_cliffords(&mut s);

@@ -2,12 +2,11 @@
 
 use crate::abi::{self, Written};
 use crate::exact::{is_normal, word_within, Matrix};
-use crate::inputs::{without_identity, LETTERS};
+use crate::inputs::{normal_word, tail_at, without_identity, LETTERS, LONGEST};
 use crate::report::Report;
 use crate::rust;
 use std::str::from_utf8;
 
-pub const LONGEST: usize = 4096;
 pub const DEEPEST: i64 = 60;
 
 /// Refusals 1 and 2, in that order.
@@ -58,7 +57,7 @@ impl Normal {
         if self.identity {
             return [
                 "job 3 normalise: with I, the Rust panics, exact arithmetic agrees with ours",
-                "job 5 phase-free: with I, the normal word less its final W",
+                "job 5 phase-free: with I, the normal word with no W in its tail",
             ];
         }
         let job_3 = match (self.arm, self.agrees) {
@@ -66,7 +65,7 @@ impl Normal {
             (true, false) => "job 3 normalise: SHT arm taken, the Rust differs, exact arithmetic agrees with ours",
             (true, true) => "job 3 normalise: SHT arm taken, the Rust happens to agree",
         };
-        [job_3, "job 5 phase-free: the normal word less its final W"]
+        [job_3, "job 5 phase-free: the normal word with no W in its tail"]
     }
 }
 
@@ -146,9 +145,11 @@ pub fn fitting(word: &[u8], room: usize) -> Written {
     Written { refusal: 0, place: 0, word: word.to_vec() }
 }
 
-pub fn less_final_w(word: &[u8]) -> &[u8] {
-    let n = word.iter().rev().take_while(|g| **g == b'W').count();
-    &word[..word.len() - n]
+/// Job 5's answer: the normal word with no W in its tail, and I for a tail that this leaves empty.
+pub fn phase_free(normal: &[u8]) -> Vec<u8> {
+    let (syllables, tail) = normal.split_at(tail_at(normal));
+    let kept: Vec<u8> = tail.iter().copied().filter(|g| *g != b'W').collect();
+    normal_word(syllables, &kept)
 }
 
 /// Jobs 3 and 5.
@@ -175,9 +176,13 @@ fn refused(report: &mut Report, word: &[u8], number: u8, place: usize, which: Ro
 
 /// Jobs 3 and 5 on an accepted word whose normal word is known.
 pub fn written(report: &mut Report, word: &[u8], normal: &Normal, which: Rooms) {
-    let turn = word.len() + normal.word.len();
-    let [kind_3, kind_5] = normal.kinds();
-    for room in rooms(which, normal.word.len(), turn) {
+    job_3(report, word, normal, which);
+    job_5(report, word, normal, which);
+}
+
+pub fn job_3(report: &mut Report, word: &[u8], normal: &Normal, which: Rooms) {
+    let [kind_3, _] = normal.kinds();
+    for room in rooms(which, normal.word.len(), word.len() + normal.word.len()) {
         let expected = fitting(&normal.word, room);
         let kind = if expected.refusal == 7 { "job 3 normalise: refused 7 Room" } else { kind_3 };
         if normal.arm && expected.refusal == 0 {
@@ -186,13 +191,22 @@ pub fn written(report: &mut Report, word: &[u8], normal: &Normal, which: Rooms) 
         let at = |d: String| format!("room {room}: {d}");
         case(report, word, WITH_I[1], kind, abi::normalise(word, room, &expected).map(at));
     }
-    let free = less_final_w(&normal.word);
-    for room in rooms(which, free.len(), turn) {
-        let expected = fitting(free, room);
-        let kind = if expected.refusal == 7 { "job 5 phase-free: refused 7 Room" } else { kind_5 };
-        let at = |d: String| format!("room {room}: {d}");
-        case(report, word, WITH_I[2], kind, abi::phase_free(word, room, &expected).map(at));
+}
+
+pub fn job_5(report: &mut Report, word: &[u8], normal: &Normal, which: Rooms) {
+    let [_, kind] = normal.kinds();
+    let free = phase_free(&normal.word);
+    for room in rooms(which, free.len(), word.len() + normal.word.len()) {
+        job_5_is(report, word, kind, &free, room);
     }
+}
+
+/// Job 5 on an accepted word whose phase-free word is said.
+pub fn job_5_is(report: &mut Report, word: &[u8], kind: &'static str, free: &[u8], room: usize) {
+    let expected = fitting(free, room);
+    let kind = if expected.refusal == 7 { "job 5 phase-free: refused 7 Room" } else { kind };
+    let at = |d: String| format!("room {room}: {d}");
+    case(report, word, WITH_I[2], kind, abi::phase_free(word, room, &expected).map(at));
 }
 
 /// The kinds of a refused word in jobs 3 and 5; a letter that the Rust can be given must make it panic.
