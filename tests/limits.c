@@ -103,6 +103,33 @@ static void words(const char *what, writer *job, const char *hsh)
     identities(job);
 }
 
+/* With just room enough, and with a byte less. */
+static void shortened(size_t len, const char *expected)
+{
+    filled(dunrossel_phase_free, len, strlen(expected), expected);
+    refused(dunrossel_phase_free, len, strlen(expected) - 1, DUNROSSEL_ROOM, 0);
+}
+
+/* Job 5 on words with W: the I of a tail that it leaves empty counts. */
+static void phase_free(void)
+{
+    static const char *const answers[][2] = {{"WT", "TI"}, {"TW", "TI"}, {"W", "I"}, {"HW", "H"}, {"XSW", "XS"}};
+    static char word[4096];
+    printf("phase_free, W\n");
+    for (size_t i = 0; i < sizeof answers / sizeof *answers; i++) {
+        memcpy(many, answers[i][0], strlen(answers[i][0]));
+        shortened(strlen(answers[i][0]), answers[i][1]);
+    }
+    memset(many, 'W', 4096);
+    shortened(8, "I");
+    shortened(4096, "I");
+    many[0] = 'T';
+    shortened(4096, "TI");
+    for (size_t i = 0; i < 4094; i++) many[i] = (uint8_t)(word[i] = i % 2 ? 'T' : 'H');
+    memcpy(word + 4094, "I", 2);
+    shortened(4096, word); /* HT over and over, and two W */
+}
+
 /* ---- job 2 */
 
 static void matrix(size_t len, uint8_t number, uint64_t expected)
@@ -428,6 +455,7 @@ int main(void)
 {
     words("normalise", dunrossel_normalise, "SHXSSSW");
     words("phase_free", dunrossel_phase_free, "SHXSSS");
+    phase_free();
     matrices();
     synthesis();
     triples();

@@ -63,11 +63,23 @@ fn document() {
 }
 
 fn shorter() {
-    job5(b"", 16);
+    job5(b"", 1);
+    job5(b"", 0);
     job5(b"T", 16);
+    job5(b"T", 2);
+    job5(b"T", 1);
     job5(b"TW", 16);
+    job5(b"TW", 2);
+    job5(b"TW", 1);
+    job5(b"WT", 2);
+    job5(b"WT", 1);
     job5(b"W", 16);
+    job5(b"W", 1);
     job5(b"W", 0);
+    job5(b"HW", 1);
+    job5(b"HW", 0);
+    job5(b"XSW", 2);
+    job5(b"XSW", 1);
     job5(b"HSH", 16);
     job5(b"XT", 3);
     job5(b"XT", 2);
@@ -99,7 +111,7 @@ fn identities() {
     job5(b"XIT", 2);
 }
 
-// Normal words, which are given back as they are, and words of job 5, which may lack the I of an empty tail.
+// Normal words, which are given back as they are, and so are the words of job 5, which have no W.
 fn given_back() {
     job3(b"TI", 2);
     job3(b"TI", 1);
@@ -109,9 +121,9 @@ fn given_back() {
     job3(b"SHTSHXSSSW", 10);
     job5(b"SHTSHXSSSW", 9);
     job3(b"SHTSHXSSS", 9);
-    job5(b"TW", 16);
-    job3(b"T", 16);
-    job5(b"T", 16);
+    job5(b"SHTSHXSSS", 9);
+    job5(b"TI", 2);
+    job5(b"TI", 1);
 }
 
 fn places() {
