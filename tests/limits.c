@@ -104,7 +104,7 @@ static void words(const char *what, writer *job, const char *hsh)
 }
 
 /* With just room enough, and with a byte less. */
-static void shortened(size_t len, const char *expected)
+static void just_fits(size_t len, const char *expected)
 {
     filled(dunrossel_phase_free, len, strlen(expected), expected);
     refused(dunrossel_phase_free, len, strlen(expected) - 1, DUNROSSEL_ROOM, 0);
@@ -118,16 +118,16 @@ static void phase_free(void)
     printf("phase_free, W\n");
     for (size_t i = 0; i < sizeof answers / sizeof *answers; i++) {
         memcpy(many, answers[i][0], strlen(answers[i][0]));
-        shortened(strlen(answers[i][0]), answers[i][1]);
+        just_fits(strlen(answers[i][0]), answers[i][1]);
     }
     memset(many, 'W', 4096);
-    shortened(8, "I");
-    shortened(4096, "I");
+    just_fits(8, "I");
+    just_fits(4096, "I");
     many[0] = 'T';
-    shortened(4096, "TI");
+    just_fits(4096, "TI");
     for (size_t i = 0; i < 4094; i++) many[i] = (uint8_t)(word[i] = i % 2 ? 'T' : 'H');
     memcpy(word + 4094, "I", 2);
-    shortened(4096, word); /* HT over and over, and two W */
+    just_fits(4096, word); /* HT over and over, and two W */
 }
 
 /* ---- job 2 */

@@ -63,7 +63,7 @@ impl Sample {
     }
 
     /// Job 5 alone, on a word that it accepts.
-    fn shorten(&mut self, word: &[u8], more: isize) {
+    fn phase_free(&mut self, word: &[u8], more: isize) {
         let normal = words::normal(&mut self.report, word).word;
         self.fitted('5', word, &phase_free(&normal), more);
     }
@@ -187,17 +187,17 @@ fn phases(s: &mut Sample) {
     for (i, tail) in inputs::tails().iter().enumerate() {
         for front in [b"".as_slice(), b"T", b"HT", b"SHT"] {
             let w = normal_word(front, tail);
-            s.shorten(&w, 0);
+            s.phase_free(&w, 0);
             if i % 5 == 0 {
-                s.shorten(&w, -1);
+                s.phase_free(&w, -1);
             }
         }
     }
     let mut random = Random::new(21);
     for len in (1..=60).chain([4076, 4095]) {
         let w = random.word(LETTERS, len);
-        s.shorten(&w, 0);
-        s.shorten(&random.with_more(&w, b'W', 20), 0);
+        s.phase_free(&w, 0);
+        s.phase_free(&random.with_more(&w, b'W', 20), 0);
     }
 }
 

@@ -134,6 +134,21 @@ fn normalise(word: &[u8], lent: &Lent) {
     black_box((buf, out));
 }
 
+fn phase_free(word: &[u8], lent: &Lent) {
+    let ((buf, room), mut out) = (lent.part(), [0u64; 3]);
+    unsafe { c::dunrossel_phase_free(word.as_ptr(), word.len(), buf, room, out.as_mut_ptr()) };
+    black_box((buf, out));
+}
+
+/// The phase-free word from the Rust's normal word, the plain way.
+fn without_phase(mut normal: String) -> String {
+    normal.truncate(normal.trim_end_matches('W').len());
+    if normal.is_empty() || normal.ends_with('T') {
+        normal.push('I');
+    }
+    normal
+}
+
 fn matrix(word: &[u8]) {
     let (mut out, mut place) = ([0i64; 10], 0u64);
     unsafe { c::dunrossel_matrix(word.as_ptr(), word.len(), out.as_mut_ptr(), &mut place) };
@@ -188,17 +203,24 @@ fn divisible() -> Vec<Triple> {
 }
 
 /// The Rust's normal form panics on I, so it is handed the word without.
-fn race_normal(name: String, len: usize, words: Vec<Vec<u8>>, turns: usize, lent: &Lent) {
+fn race_normal(
+    name: String,
+    words: Vec<Vec<u8>>,
+    turns: usize,
+    ours: impl Fn(&[u8]),
+    plain: impl Fn(String) -> String,
+) {
+    let len = words[0].len();
     let inputs: Vec<_> = words.into_iter().map(|w| (w.clone(), inputs::without_identity(&w))).collect();
     race(
         name,
         len as f64,
         &inputs,
         turns,
-        |(w, _)| normalise(w, lent),
+        |(w, _)| ours(w),
         |(_, w)| text(w),
         |w| {
-            black_box(NormalForm::from_gates(w).to_gates());
+            black_box(plain(NormalForm::from_gates(w).to_gates()));
         },
     )
     .print();
@@ -213,11 +235,15 @@ fn main() {
     let sizes = [(20, 4000, 2, ""), (20, 400, 20, ", 400 words only"), (200, 400, 3, ""), (4096, 20, 3, "")];
     for (len, n, turns, which) in sizes {
         let name = format!("normalise, {len} random letters{which}");
-        race_normal(name, len, words(&mut random, PLAIN, len, n), turns, &lent);
+        race_normal(name, words(&mut random, PLAIN, len, n), turns, |w| normalise(w, &lent), |w| w);
     }
     for (len, n) in [(20, 4000), (200, 400), (4096, 20)] {
         let name = format!("normalise, {len} random letters, I among them");
-        race_normal(name, len, words(&mut Random::new(21), LETTERS, len, n), 3, &lent);
+        race_normal(name, words(&mut Random::new(21), LETTERS, len, n), 3, |w| normalise(w, &lent), |w| w);
+    }
+    for (len, n) in [(20, 4000), (200, 400), (4096, 20)] {
+        let name = format!("phase-free, {len} random letters");
+        race_normal(name, words(&mut Random::new(22), PLAIN, len, n), 3, |w| phase_free(w, &lent), without_phase);
     }
     for k in [10, 30, 60] {
         let inputs = triples(&mut random, k, 100);

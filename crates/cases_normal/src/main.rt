@@ -62,7 +62,7 @@ fn document() {
     job3(b"HTHT", 16);
 }
 
-fn shorter() {
+fn phase_free_words() {
     job5(b"", 1);
     job5(b"", 0);
     job5(b"T", 16);
@@ -364,7 +364,7 @@ fn inverses() {
 
 fn main() {
     document();
-    shorter();
+    phase_free_words();
     identities();
     given_back();
     places();
