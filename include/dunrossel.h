@@ -63,7 +63,7 @@ uint8_t dunrossel_normalise(const uint8_t *word, size_t len, uint8_t *buf, size_
 /* Writes the phase-free word: the normal word with no W in its tail, a tail that this leaves empty being I. So W gives I, and
  * T and TW both give TI. Two words give the same bytes exactly when their matrices differ by a power of omega. It is itself
  * a normal word, with as many T as dunrossel_normalise's and no more bytes; at most 4,096 letters long, it is given back as
- * it is by both calls. out as there.
+ * it is by both calls. out: as dunrossel_normalise's.
  * Refuses 1, 2, 7 (7 by the phase-free word's length). */
 uint8_t dunrossel_phase_free(const uint8_t *word, size_t len, uint8_t *buf, size_t room, uint64_t out[3]);
 
