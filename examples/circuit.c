@@ -35,7 +35,7 @@ static uint8_t *input(size_t *len)
         if (*len == room) {
             room = room ? 2 * room : 1 << 16;
             if (room > MOST) stop(FAILED, "over 268435455 bytes on standard input; what is accepted has at most 57394");
-            bytes = realloc(bytes, room);
+            bytes = (uint8_t *)realloc(bytes, room);
             if (!bytes) stop(FAILED, "no memory for standard input");
         }
         got = fread(bytes + *len, 1, room - *len, stdin);

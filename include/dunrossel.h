@@ -1,22 +1,33 @@
-/* Dunrossel: the words of H, S, X, W, T for exact one-qubit matrices. For libdunrossel.a (rt staticlib dunrossel), x86-64.
+/* Dunrossel: the words of H, S, X, W, T for exact one-qubit matrices. For libdunrossel.a (rt staticlib dunrossel), x86-64 Linux.
  *
- * Numbers. zw is z.a z.b z.c z.d w.a w.b w.c w.d; (a,b,c,d) stands for a·omega^3 + b·omega^2 + c·omega + d. With k and n
- * they are the matrix with rows [z, -conj(w)·omega^n] and [w, conj(z)·omega^n] over root two to the k; n counts modulo 8.
+ * Numbers. omega is (1+i)/root two, an eighth root of one, omega^4 = -1. zw is z.a z.b z.c z.d w.a w.b w.c w.d; (a,b,c,d) is
+ * a·omega^3 + b·omega^2 + c·omega + d. With k and n they are the matrix with rows [z, -conj(w)·omega^n] and
+ * [w, conj(z)·omega^n] over root two to the k; n counts modulo 8. The matrix is unitary where the eight squares of zw sum to
+ * 2^k and ab+bc+cd-da of z plus the same of w is 0.
  *
- * Words are bytes, one for each letter, with no zero at the end. The leftmost letter is the leftmost factor. Every call that
- * takes a word takes the letters I H S X W T, I being the identity, so that an answer can be handed in again.
+ * Letters, by rows: H = [1 1; 1 -1] over root two, S = [1 0; 0 i], T = [1 0; 0 omega], X = [0 1; 1 0], W = [omega 0; 0 omega],
+ * I = [1 0; 0 1]. Words are bytes, one for each letter, with no zero at the end; the leftmost letter is the leftmost factor.
+ * Every call that takes a word takes these six letters, so that an answer can be handed in again, and at most 4,096 of them.
+ *
+ * A normal word is at most one T, then any number of HT and SHT, then a tail: nothing, H or SH, then X at most once, S at most
+ * 3 times, W at most 7 times, in this order, and I where all of that is empty. Every matrix here has exactly one.
  *
  * A slice is a pointer and the number of bytes behind it. Nothing is read or written through the pointer of an empty slice.
  *
- * out (and place) are results: always written, whatever they held; all zeros where the call is refused, but for a place.
- * buf is lent memory of `room` bytes: a refusal leaves it as it was, and so does an answer beyond the answer's length.
+ * out and place ARE the result, beside the number that is returned: always written, whatever they held; all zeros where the
+ * call is refused, but for a place. buf is lent memory of `room` bytes: a refusal leaves it as it was, and so does an answer
+ * beyond the answer's length.
  *
  * Every value of the numbers and bytes is answered or refused. What no function can test is the caller's to keep: each
  * pointer leads to as many elements as its declaration or its length says, and no memory that is written (out, place, buf)
  * overlaps another argument's.
  *
- * The result is 0 or the number of a refusal; of several that hold, the first in the function's own list. No call keeps
- * memory, a pointer or a state; calls may run side by side. A later number comes through a new function: no out array grows. */
+ * The result is 0 or the number of a refusal; of several that hold, the first in the function's own list, which is their order.
+ * No call keeps memory, a pointer or a state; calls may run side by side. A later number comes through a new function: no out
+ * array grows.
+ *
+ * The archive needs memset, of the C library or of your own, and nothing else: no heap, no files, no start-up. A call takes
+ * less than 8 KiB of stack. */
 #ifndef DUNROSSEL_H
 #define DUNROSSEL_H
 
@@ -37,9 +48,15 @@ enum {
     DUNROSSEL_PHASE = 10       /* a W, and OpenQASM 2.0 has no global phase; place: the leftmost */
 };
 
-/* The longest word that is taken; a room that dunrossel_synthesise never finds too small; a room that no circuit finds too
- * small: 50 bytes of header, and at most 14 for each letter. */
-enum { DUNROSSEL_LETTERS = 4096, DUNROSSEL_ENOUGH = 376, DUNROSSEL_CIRCUIT = 57394 };
+/* The longest word that is taken; and the room that a call never finds too small, so that it doesn't refuse 7. No smaller one
+ * does for dunrossel_normalise, dunrossel_phase_free and the calls of circuits. */
+enum {
+    DUNROSSEL_LETTERS = 4096,    /* the longest word, and room for a circuit's letters: dunrossel_qasm_read */
+    DUNROSSEL_ENOUGH = 376,      /* for dunrossel_synthesise */
+    DUNROSSEL_NORMAL = 5469,     /* for dunrossel_normalise: an answer may be longer than the word */
+    DUNROSSEL_PHASE_FREE = 5464, /* for dunrossel_phase_free */
+    DUNROSSEL_CIRCUIT = 57394    /* for dunrossel_qasm2_write and dunrossel_qasm3_write */
+};
 
 #ifdef __cplusplus
 extern "C" {
@@ -49,26 +66,28 @@ extern "C" {
  * Refuses 3, 4, 5. */
 uint8_t dunrossel_reduce(int64_t k, uint8_t n, const int64_t zw[8], int64_t out[10]);
 
-/* The product of the word's letters, reduced. out: k, n, then zw; *place: where a refusal 2 or 6 lies, else 0.
+/* The product of a word's letters (I H S X W T), reduced. out: k, n, then zw; *place: where a refusal 2 or 6 lies, else 0.
  * Refuses 1, 2, 6. */
 uint8_t dunrossel_matrix(const uint8_t *word, size_t len, int64_t out[10], uint64_t *place);
 
-/* Writes the normal word with the matrix of the word's letters into buf. The same matrix gives the same bytes, and no word
- * has fewer T; so a normal word of at most 4,096 letters is given back as it is, and an I put in anywhere changes nothing.
- * An answer may itself have more than 4,096 letters: handed in again it is refused 1. out: place of a refusal 2 (else 0),
- * bytes written, T letters written.
+/* Writes the normal word with the matrix of a word's letters (I H S X W T) into buf; DUNROSSEL_NORMAL bytes always do. The
+ * same matrix gives the same bytes, and no word has fewer T; so a normal word of at most 4,096 letters is given back as it
+ * is, and an I put in anywhere changes nothing. An answer may itself have more than 4,096 letters: handed in again it is
+ * refused 1. out: place of a refusal 2 (else 0), bytes written, T letters written.
  * Refuses 1, 2, 7. */
 uint8_t dunrossel_normalise(const uint8_t *word, size_t len, uint8_t *buf, size_t room, uint64_t out[3]);
 
-/* Writes the phase-free word: the normal word with no W in its tail, a tail that this leaves empty being I. So W gives I, and
- * T and TW both give TI. Two words give the same bytes exactly when their matrices differ by a power of omega. It is itself
- * a normal word, with as many T as dunrossel_normalise's and no more bytes; at most 4,096 letters long, it is given back as
- * it is by both calls. out: as dunrossel_normalise's.
+/* Writes the phase-free word of a word's letters (I H S X W T) into buf: the normal word with no W in its tail, a tail that
+ * this leaves empty being I; DUNROSSEL_PHASE_FREE bytes always do. So W gives I, and T and TW both give TI. Two words give
+ * the same bytes exactly when their matrices differ by a power of omega. It is itself a normal word, with as many T as
+ * dunrossel_normalise's and no more bytes; at most 4,096 letters long, it is given back as it is by both calls. out: as
+ * dunrossel_normalise's.
  * Refuses 1, 2, 7 (7 by the phase-free word's length). */
 uint8_t dunrossel_phase_free(const uint8_t *word, size_t len, uint8_t *buf, size_t room, uint64_t out[3]);
 
-/* Writes the normal word of a matrix, reduced or not, into buf: at most 6k+16 bytes, k reduced, and the bytes that
- * dunrossel_normalise gives for any word with this matrix, this one too. out: 0, bytes written, T letters written.
+/* Writes the normal word of a matrix, reduced or not, into buf: at most 6k+16 bytes, k reduced, so DUNROSSEL_ENOUGH always do;
+ * and the bytes that dunrossel_normalise gives for any word with this matrix, this one too. out: 0, bytes written, T letters
+ * written.
  * Refuses 3, 4, 5, 7. */
 uint8_t dunrossel_synthesise(int64_t k, uint8_t n, const int64_t zw[8], uint8_t *buf, size_t room, uint64_t out[3]);
 
@@ -83,12 +102,16 @@ void dunrossel_clifford_inverse(const int32_t x[4], int32_t out[4]);
  * the rest's four numbers. */
 void dunrossel_clifford_coset(const int32_t x[4], int32_t out[5]);
 
-/* The four entries as floating point, row by row, real then imaginary part, each within 2^-50 of the exact value.
+/* The four entries as floating point, row by row, real then imaginary part, each within 2^-50 of the exact value. out: these
+ * eight.
  * Refuses 3, 4, 5. */
 uint8_t dunrossel_view(int64_t k, uint8_t n, const int64_t zw[8], double out[8]);
 
 /* What the bench program writes for a record, into out; the result is its number of bytes, those beyond are as before.
- * A refusal (3, 4, 5, 8) stands in the text: refusal=, an empty word, t=0, bytes=0. */
+ * A record is the lines k= n= z= w=, each ended by LF, decimal numbers within 64 signed bits (n: 0 to 255), z and w four
+ * of them parted by commas, no spaces, nothing after. The text has the lines refusal= word= t= bytes=: the number of the
+ * refusal, the normal word, its T letters, its length. A refusal (8, 3, 4, 5, in this order) stands in the text, with an
+ * empty word, t=0 and bytes=0. */
 size_t dunrossel_bench(const uint8_t *record, size_t len, uint8_t out[512]);
 
 /* Circuits are OpenQASM on one qubit, to the byte, an LF after each line and nothing else:
@@ -100,15 +123,16 @@ size_t dunrossel_bench(const uint8_t *record, size_t len, uint8_t out[512]);
  * then a line for each statement: h q[0]; s q[0]; t q[0]; x q[0]; sdg q[0]; tdg q[0]; and in 3.0 gphase(pi/4); for W.
  * A circuit's first statement acts first, so it is the word's rightmost letter; these three lines alone are the empty word.
  *
- * Writes the circuit of the word's letters into buf, by h, s, t, x and gphase; I is left out. DUNROSSEL_CIRCUIT bytes
- * always do. out: place of a refusal 2 or 10 (else 0), bytes written.
+ * Writes the circuit of a word's letters (I H S X W T) into buf, by h, s, t, x and gphase; I is left out. DUNROSSEL_CIRCUIT
+ * bytes always do. out: place of a refusal 2 or 10 (else 0), bytes written.
  * Refuses 1, 2, 10, 7 in 2.0, and 1, 2, 7 in 3.0. */
 uint8_t dunrossel_qasm2_write(const uint8_t *word, size_t len, uint8_t *buf, size_t room, uint64_t out[2]);
 uint8_t dunrossel_qasm3_write(const uint8_t *word, size_t len, uint8_t *buf, size_t room, uint64_t out[2]);
 
-/* Writes the letters of a circuit of either edition into buf, a word for every call that takes one: sdg is read as SSS, tdg
- * as TSSS. They have the circuit's own matrix, phase included, and of what was written they are the letters but for I. The
- * text may have any length; DUNROSSEL_LETTERS bytes of room always do. out: place of a refusal 9 (else 0), bytes written.
+/* Writes the letters of a circuit of either edition into buf, a word of H S X W T for every call that takes one: sdg is read as
+ * SSS, tdg as TSSS. They have the circuit's own matrix, phase included, and of what was written they are the letters but for
+ * I. The text may have any length; DUNROSSEL_LETTERS bytes of room always do. out: place of a refusal 9 (else 0), bytes
+ * written.
  * Refuses 9, 1 (by the letters read), 7. */
 uint8_t dunrossel_qasm_read(const uint8_t *text, size_t len, uint8_t *buf, size_t room, uint64_t out[2]);
 

@@ -267,7 +267,7 @@ static void circuit(writer *job, const void *given, size_t len, size_t room, uin
 {
     uint64_t out[3] = {7, 7, 7};
     lend();
-    uint8_t refusal = job(given, len, lent, room, out);
+    uint8_t refusal = job((const uint8_t *)given, len, lent, room, out);
     printf("%lu bytes, room %lu: refusal=%d place=%d bytes=%d\n", (unsigned long)len, (unsigned long)room, refusal, (int)out[0], (int)out[1]);
     check("refusal", refusal == number && out[0] == place);
     check("answer", out[1] == bytes && memcmp(lent, expected, bytes) == 0);
