@@ -1,4 +1,4 @@
-//! The differences that document 01 lists, each at its smallest input, both sides as docs/DIFFERENCES.md has them.
+//! The differences that docs/DIFFERENCES.md marks with a star, each at its smallest input, both sides as it has them.
 
 use crate::abi::{self, Written};
 use crate::report::Report;
@@ -54,7 +54,7 @@ pub fn all(report: &mut Report) {
     let less_final_w = |w: &str| given(w).map(|v| v.trim_end_matches('W').to_string());
     say(
         report,
-        "listed: job 5's W is nothing and TW is T by document 01, I and TI here by document 02",
+        "listed: cutting the W letters off the Rust's normal words leaves nothing of W and T of TW, job 5 gives I and TI here",
         less_final_w("W").as_deref() == Some("")
             && less_final_w("TW").as_deref() == Some("T")
             && abi::phase_free(b"W", 1, &word("I")).is_none()

@@ -1,4 +1,4 @@
-//! Exact arithmetic of the harness's own, from document 01's definitions: two by two matrices of ring numbers
+//! Exact arithmetic of the harness's own, from docs/SCOPE.md: two by two matrices of ring numbers
 //! over a power of root two, the letters as matrices, and the shape of normal words. Nothing here is the Rust's.
 
 use dashu_int::IBig;
@@ -160,7 +160,7 @@ pub fn is_normal(word: &[u8]) -> bool {
     !rest.is_empty() && strip(strip(strip(tail, b'X', 1), b'S', 3), b'W', 7).is_empty()
 }
 
-/// Document 01's unitarity, for coefficients of at most 2^30.
+/// Unitary by docs/SCOPE.md, Triples, for coefficients of at most 2^30.
 pub fn is_unitary(k: i64, zw: &[i64; 8]) -> bool {
     let squares: i128 = zw.iter().map(|x| *x as i128 * *x as i128).sum();
     let cross = |v: &[i64]| {

@@ -1,6 +1,6 @@
 //! The inputs: words, triples and Cliffords, from lists and from one fixed random sequence.
 
-/// Document 01's limit of a word's letters.
+/// The limit of a word's letters (docs/SCOPE.md, Limits).
 pub const LONGEST: usize = 4096;
 
 pub struct Random(u64);

@@ -1,4 +1,4 @@
-//! Circuits of OpenQASM 2.0 and 3.0 on one qubit, from request A1 of document 02: the two editions' texts, what they
+//! Circuits of OpenQASM 2.0 and 3.0 on one qubit, from docs/SCOPE.md, Jobs: the two editions' texts, what they
 //! mean by OpenQASM's own gates, their letters. How far a text can be right is found by keeping all that its bytes so
 //! far can be, so that no look ahead can be wrong.
 

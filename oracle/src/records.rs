@@ -1,4 +1,4 @@
-//! The bench record: document 01's text read by a parser of the harness's own, and the answer's text.
+//! The bench record (docs/SCOPE.md, The record), read by a parser of the harness's own, and the answer's text.
 
 use crate::abi;
 use crate::inputs::Triple;

@@ -112,7 +112,7 @@ impl Sample {
     }
 }
 
-/// Documents 01 and 02's cases, every arm, every letter and byte, and each limit of words.
+/// The cases of docs/SCOPE.md, Either side, every arm, every letter and byte, and each limit of words.
 fn words(s: &mut Sample) {
     for w in ["", "T", "TT", "TTTT", "HH", "HTT", "SHTT", "HSH", "XT", "WT", "HTHT", "W", "TW", "WWWWWWWW", "HW", "XSW"]
     {

@@ -92,7 +92,7 @@ pub fn synthesised(report: &mut Report, numbers: &[i64; 10]) -> Vec<u8> {
         report.differs("job 4", format!("{numbers:?}: exact arithmetic is against {word:?}"));
     }
     if over(letters.len(), k) > 12 || over(word.len(), k) > 16 {
-        report.differs("job 4", format!("{numbers:?}: longer than document 01 says"));
+        report.differs("job 4", format!("{numbers:?}: longer than docs/SCOPE.md says"));
     }
     word
 }

@@ -236,7 +236,7 @@ pub fn deep(place: usize) -> Answer {
     ("job 2 matrix: refused 6 Deep (the Rust has no limit)", 6, [0; 10], place as u64)
 }
 
-/// By document 01's rules; the numbers are the Rust's.
+/// Refused as docs/SCOPE.md, Refusals, has it; the numbers are the Rust's.
 pub fn matrix_expected(report: &mut Report, word: &[u8]) -> Answer {
     let refused = |kind, number, place: usize| (kind, number, [0; 10], place as u64);
     if let Some((number, place)) = refusal(word) {

@@ -1,4 +1,4 @@
-// Document 01's cases of job 4, on either side of each limit and of the room: a line each, compared with stdout.
+// Job 4's cases of docs/SCOPE.md, Either side, with more at each limit and at the room: a line each, compared with stdout.
 use ring::ZOmega;
 use shown::number;
 use shown::signed;

@@ -1,4 +1,4 @@
-// Document 01's cases of jobs 1 and 2, on either side of each limit: a line each, compared with stdout.
+// Cases of jobs 1 and 2 from docs/SCOPE.md, Either side, with more at each limit: a line each, compared with stdout.
 use ring::ZOmega;
 use shown::number;
 use shown::signed;

@@ -1,4 +1,4 @@
--- OpenQASM 2.0 and 3.0 on one qubit, as document 02's request A1 has them: editions, statements, texts; a circuit's letters, a word's circuit;
+-- OpenQASM 2.0 and 3.0 on one qubit (docs/SCOPE.md, Jobs): editions, statements, texts; a circuit's letters, a word's circuit;
 -- and a circuit's own matrix, by OpenQASM's gates.
 use mathlib.Core.Path.{_≡_}
 use mathlib.Core.Bool.{Bool, true, false}

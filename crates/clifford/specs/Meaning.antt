@@ -12,7 +12,7 @@ use Rattle.clifford.specs.declared.Axis.the-variants as Axis
 use Rattle.clifford.specs.declared.Clifford.{Clifford}
 use Rattle.clifford.specs.declared.Coset.{Coset}
 
--- ---- the program's Cliffords as document 01's
+-- ---- the program's Cliffords as those of docs/SCOPE.md, Triples
 abbrev pub quad : Clifford → meaning.Clifford
 quad q = record { a = q .a; b = q .b; c = q .c; d = q .d }
 

@@ -1,4 +1,4 @@
--- The documents' cases, computed.
+-- SCOPE's cases, computed.
 pub mod Letters
 pub mod NormalTest
 pub mod Table

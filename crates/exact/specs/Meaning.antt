@@ -1,4 +1,4 @@
--- What a reader must believe, and nothing else: definitions written from documents 01 and 02 and the papers that they name.
+-- What a reader must believe, and nothing else: definitions written from docs/SCOPE.md and the published papers that it names.
 pub mod Number
 pub mod Matrix
 pub mod Word

@@ -1,4 +1,4 @@
-// Document 01's limits, and the refusals of documents 01 and 02 by number. The mathematics that every contract cites stands in specs/.
+// The limits and the refusals by number (docs/SCOPE.md). The mathematics that every contract cites stands in specs/.
 ghost use mathlib.Core.Path.{_≡_};
 ghost use lib.ListN.{length};
 ghost use Rattle.exact.specs.Meaning.Limits.{enough};

@@ -1,4 +1,4 @@
--- What jobs 3 and 5 promise: document 01's refusals in their order, or the answer in the lent bytes.
+-- What jobs 3 and 5 promise (docs/SCOPE.md, Jobs): their refusals in order, or the answer in the lent bytes.
 use mathlib.Core.List.{List}
 use Prim.Native.Nat.{ℕ}
 use lib.ListN.{length}

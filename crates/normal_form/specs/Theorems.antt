@@ -1,5 +1,5 @@
--- What follows from the outcomes of jobs 3 and 5: they are unique, a normal word always exists and has the fewest T letters, document 01's
--- table of cases, and that no useless program meets them. Assumes nothing.
+-- What follows from the outcomes of jobs 3 and 5: they are unique, a normal word always exists and has the fewest T letters, the table of
+-- cases of docs/SCOPE.md, Either side, and that no useless program meets them. Assumes nothing.
 use mathlib.Core.Path.{_≡_, refl, ap}
 use mathlib.Core.Bool.{true, _&&_}
 use mathlib.Core.List.{List, [], _∷_, _++_}
@@ -79,7 +79,7 @@ module _ (Answer : List Letter → List Letter → Type 0) (one : (u : List Lett
     pub only-refused : length old < length (bytes v) → WordOutcome Answer (bytes u) old r new → lent r new ≡ lent (refused Room 0) old
     only-refused l o = outcome-unique one (bytes u) old r new (refused Room 0) old o (refused-there l)
 
--- ---- document 01's cases: the outcome of job 3 at each left side is the right side, in a buffer with room for it
+-- ---- SCOPE's cases: the outcome of job 3 at each left side is the right side, in a buffer with room for it
 pub record CaseMet (r : Row) : Type 0 where
   pub met : (old : List ℕ) → length (bytes (r .right)) ≤ length old
       → NormaliseOutcome (bytes (r .left)) old (counts (r .right)) (over (bytes (r .right)) old)

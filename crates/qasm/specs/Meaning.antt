@@ -1,4 +1,4 @@
--- What the writer and the reader promise: the refusals of documents 01 and 02 in their order, or the answer in the lent bytes.
+-- What the writer and the reader of circuits promise (docs/SCOPE.md, Jobs): their refusals in order, or the answer in the lent bytes.
 use mathlib.Core.Path.{_≡_}
 use mathlib.Core.Bool.{Bool, true, false}
 use mathlib.Core.List.{List}

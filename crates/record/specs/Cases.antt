@@ -1,4 +1,4 @@
--- The definitions run: document 01's example, and numbers at the ends of the range. Assumes nothing.
+-- The definitions run: the example of docs/SCOPE.md, The record, and numbers at the ends of the range. Assumes nothing.
 use mathlib.Core.Path.{_≡_, refl}
 use mathlib.Core.List.{[], _∷_}
 use lib.IntN.{pos, negsuc}

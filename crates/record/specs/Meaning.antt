@@ -1,4 +1,4 @@
--- What reading a bench record hands back, and what writing its answer leaves, as document 01's section "The bench program" has them.
+-- What reading a bench record hands back, and what writing its answer leaves (docs/SCOPE.md, The record).
 -- The record and its answer in bytes are crate exact's (Meaning.Record).
 use mathlib.Core.Path.{_≡_}
 use mathlib.Core.List.{List}

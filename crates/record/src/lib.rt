@@ -1,4 +1,4 @@
-// The bench record, read from a slice, and its answer, written to a slice, as document 01's "The bench program" has them to the byte.
+// The bench record, read from a slice, and its answer, written to a slice, to the byte as in docs/SCOPE.md, The record.
 mod decimal;
 mod lines;
 mod text;

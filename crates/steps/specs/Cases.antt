@@ -1,4 +1,4 @@
--- The letters and steps of some triples, as one computed table: document 01's cases before normalising, the two that are written reduced
+-- The letters and steps of some triples, as one computed table: SCOPE's cases before normalising, the two that are written reduced
 -- by many exponents, the longest closing, and words that come back as they were. Assumes nothing.
 use mathlib.Core.Path.{_≡_}
 use mathlib.Core.Bool.{Bool, true, _&&_}

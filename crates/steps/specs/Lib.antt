@@ -1,4 +1,4 @@
--- The steps of synthesis, as document 01 describes them: why they end, what they write and how much. Proofs over the definitions of `exact`.
+-- The steps of docs/SCOPE.md, Synthesis: why they end, what they write and how much. Proofs over the definitions of `exact`.
 pub mod Residues
 pub mod Step
 pub mod Closing

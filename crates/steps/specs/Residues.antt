@@ -1,4 +1,4 @@
--- Residues in a step: document 01's two tables, m by them, and how the parities of z and of omega^-m·w lie then, by one computed test
+-- Residues in a step: the tables of docs/SCOPE.md, Synthesis, m by them, and how the parities of z and of omega^-m·w lie then, by one computed test
 -- over all 256 pairs of residues. Assumes nothing.
 use mathlib.Core.Path.{_≡_, refl, sym, _∙_, ap, ap₂}
 use mathlib.Core.Bool.{Bool, true, false, not, cond, _&&_}

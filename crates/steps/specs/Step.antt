@@ -297,7 +297,7 @@ module _ (t : Triple) (k : ℕ) (ready : Ready t) (e : t .k ≡ suc k) where
   pub classes : residue (norm (t .z)) ≡ residue (norm (t .w))
   classes = one-class t k (ready .unitary) e
 
-  -- the residues that document 01 rules out
+  -- the residues that docs/SCOPE.md, Synthesis, rules out
   pub no-0000 : residue (norm (t .z)) ≡ 0b0000 → ⊥
   no-0000 f = clash (divides (t .z)) (divides (t .w)) (class-0000 (t .z) f) (class-0000 (t .w) (sym classes ∙ f)) some
     where

@@ -1,4 +1,4 @@
--- What job 4 promises: document 01's refusals in their order, or the normal word of the triple's matrix in the lent bytes.
+-- What job 4 promises (docs/SCOPE.md, Jobs): its refusals in order, or the normal word of the triple's matrix in the lent bytes.
 use mathlib.Core.List.{List}
 use Prim.Native.Nat.{ℕ}
 use lib.IntN.{ℤ}

@@ -1,4 +1,4 @@
--- What jobs 1 and 2 promise, for every input, in document 01's words; and a machine's triple as the exact one.
+-- What jobs 1 and 2 promise for every input (docs/SCOPE.md, Jobs); and a machine's triple as the exact one.
 use mathlib.Core.Path.{_≡_}
 use mathlib.Core.List.{List}
 use Prim.Native.Nat.{ℕ, _<_}

@@ -1,4 +1,4 @@
--- The parts of an entry are those of document 01, shown in the ring itself: x and its conjugate x* sum to twice the real part of x, and their
+-- The parts of an entry are what `Surd` says, shown in the ring itself: x and its conjugate x* sum to twice the real part of x, and their
 -- difference is twice i times its imaginary part, i being omega². So that of x over root two to the k is A + B·root two over 2 to the s
 -- means: 2^s·(x + x*) = 2·root two^k·(A + B·root two), and 2^s·(x - x*) = 2·i·root two^k·(A + B·root two). Assumes nothing.
 use mathlib.Core.Path.{_≡_, sym, _∙_, ap, ap₂, subst}

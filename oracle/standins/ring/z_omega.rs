@@ -1,4 +1,4 @@
-//! Stand-in of src/ring/z_omega.rs, from document 01: (a,b,c,d) is a·omega^3 + b·omega^2 + c·omega + d, omega^4 = -1.
+//! Stand-in of src/ring/z_omega.rs, from docs/SCOPE.md, Numbers: (a,b,c,d) is a·omega^3 + b·omega^2 + c·omega + d, omega^4 = -1.
 
 use crate::ring::ZRootTwo;
 use dashu_float::{round::mode::HalfEven, FBig};

@@ -1,4 +1,4 @@
--- A ring number times its conjugate: the four coefficients (-B, 0, B, A), A the squares and B the cross sum, so that document 01's two sums of a
+-- A ring number times its conjugate: the four coefficients (-B, 0, B, A), A the squares and B the cross sum, so that SCOPE's two sums of a
 -- unitary triple are one equation of ring numbers; and the residues that such a product can have, 1011 not among them. Assumes nothing.
 use mathlib.Core.Path.{_≡_, refl, sym, _∙_, ap, ap₂}
 use mathlib.Core.Bool.{Bool, true, false, not, _&&_}

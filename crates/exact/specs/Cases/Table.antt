@@ -1,5 +1,5 @@
--- Document 01's cases as computed tables: for normalising, each right side is normal and has the left side's matrix; the Cliffords that it names; and
--- the reading order. Assumes nothing.
+-- The cases of docs/SCOPE.md, Either side, as computed tables: for normalising, each right side is normal and has the left side's matrix; the
+-- Cliffords that SCOPE names; and the reading order. Assumes nothing.
 use mathlib.Core.Path.{_≡_, refl}
 use mathlib.Core.Bool.{Bool, true, false, _&&_}
 use mathlib.Core.List.{List, [], _∷_}

@@ -1,4 +1,4 @@
--- Triples: each letter acts on them from the left as document 01's shape says, exactly; their product; unitary means that M*·M is 2 to the k.
+-- Triples (docs/SCOPE.md, Triples): each letter acts on them from the left, exactly; their product; unitary means that M*·M is 2 to the k.
 -- Every word's matrix is that of a unitary triple. Assumes nothing.
 use mathlib.Core.Path.{_≡_, refl, sym, _∙_, ap, ap₂}
 use mathlib.Core.List.{List, [], _∷_}

@@ -1,4 +1,4 @@
--- Cliffords, as document 01 has them: (a,b,c,d) is E^a X^b S^c omega^d, a in 0..2, b in 0..1, c in 0..3, d in 0..7, and H = (1,0,1,5),
+-- Cliffords (docs/SCOPE.md, Triples): (a,b,c,d) is E^a X^b S^c omega^d, a in 0..2, b in 0..1, c in 0..3, d in 0..7, and H = (1,0,1,5),
 -- so that E is H·S³·omega³.
 use mathlib.Core.List.{List, [], _∷_, _++_}
 use Prim.Native.Nat.{ℕ, zero, suc, _<_}

@@ -1,4 +1,4 @@
--- Endings of a word, as document 01 has them for Deep: the letters from a place on, and whether their least exponent is over the limit.
+-- Endings of a word, for refusal 6, Deep (docs/SCOPE.md, Refusals): the letters from a place on, and whether their least exponent is over the limit.
 use mathlib.Core.List.{List}
 use Prim.Native.Nat.{ℕ, _≤_, _<_}
 use lib.ListN.{length, drop}

@@ -1,4 +1,4 @@
--- Writing into lent memory, as document 01 has it: the answer's bytes from the start, those beyond as before; a refusal writes nothing.
+-- Writing into lent memory (docs/SCOPE.md, Jobs and Refusals): the answer's bytes from the start, those beyond as before; a refusal writes nothing.
 use mathlib.Core.Path.{_≡_}
 use mathlib.Core.List.{List, _++_}
 use Prim.Native.Nat.{ℕ}

@@ -1,4 +1,4 @@
--- Document 01's limits, and the refusals of documents 01 and 02 by number.
+-- The limits (docs/SCOPE.md, Limits), and the refusals by number.
 use Prim.Native.Nat.{ℕ, _^_}
 
 -- a word's letters, and as many syllables in a reading

@@ -1,4 +1,4 @@
--- Matrices, as document 01 has them: two by two, of ring numbers, over a power of root two; the least such power; and which differ by a power of
+-- Matrices (docs/SCOPE.md, Triples): two by two, of ring numbers, over a power of root two; the least such power; and which differ by a power of
 -- omega.
 use mathlib.Core.Path.{_≡_}
 use Prim.Native.Nat.{ℕ, _+_, _≤_}

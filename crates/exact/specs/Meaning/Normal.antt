@@ -1,5 +1,5 @@
--- Normal words, as document 01 has them: at most one leading T, then any number of HT and SHT, then a tail: nothing, H or SH, then X at most
--- once, S at most 3 times, W at most 7 times, an empty tail written I; and phase-free words, as document 02's request A3 has them.
+-- Normal words (docs/SCOPE.md, Normal form): at most one leading T, then any number of HT and SHT, then a tail: nothing, H or SH, then X at most
+-- once, S at most 3 times, W at most 7 times, an empty tail written I; and phase-free words.
 use mathlib.Core.Path.{_≡_}
 use mathlib.Core.Bool.{Bool, true, false}
 use mathlib.Core.List.{List, [], _∷_, _++_}

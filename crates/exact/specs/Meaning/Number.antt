@@ -1,5 +1,5 @@
--- Ring numbers, as document 01 has them: (a,b,c,d) is a·omega³ + b·omega² + c·omega + d, where omega⁴ = -1.
--- Each operation is written once over any ring's operations (`Ops`); at `ints`, the whole numbers, it is document 01's.
+-- Ring numbers (docs/SCOPE.md, Numbers): (a,b,c,d) is a·omega³ + b·omega² + c·omega + d, where omega⁴ = -1.
+-- Each operation is written once over any ring's operations (`Ops`); at `ints`, the whole numbers, it is SCOPE's.
 use mathlib.Core.Bool.{Bool, cond}
 use Prim.Native.Nat.{ℕ, zero, suc, _+_, _*_, _%_, _≤_}
 use lib.Dec.{eqb}

@@ -1,4 +1,4 @@
--- Outcomes, as document 01 has them: of the refusals in their order the first whose condition holds, at its place; where none holds, the answer.
+-- Outcomes (docs/SCOPE.md, Refusals): of the refusals in their order the first whose condition holds, at its place; where none holds, the answer.
 use mathlib.Core.Path.{_≡_}
 use mathlib.Core.Bool.{Bool, true, false}
 use Prim.Native.Nat.{ℕ}

@@ -1,4 +1,4 @@
--- The bench record and its answer in bytes, as document 01's section "The bench program" has them.
+-- The bench record and its answer in bytes (docs/SCOPE.md, The record).
 -- Bytes: 10 is LF, 44 a comma, 45 a minus, 48 to 57 the digits, 61 `=`.
 use mathlib.Core.Path.{_≡_}
 use mathlib.Core.Bool.{true, false}

@@ -1,4 +1,4 @@
--- The refusals of documents 01 and 02 as values: each a number with its condition, over bytes and whole numbers.
+-- The refusals (docs/SCOPE.md, Refusals) as values: each a number with its condition, over bytes and whole numbers.
 use mathlib.Core.List.{List}
 use Prim.Native.Nat.{ℕ, _<_}
 use lib.IntN.{ℤ, pos, natAbs}

@@ -1,4 +1,4 @@
--- Texts as bytes; and texts of a kind, whatever the kind, as document 02 has them: what begins a right one, and the first byte that can't
+-- Texts as bytes; and texts of a kind, whatever the kind, for refusal 9 (docs/SCOPE.md, Refusals): what begins a right one, and the first byte that can't
 -- continue one.
 use mathlib.Core.List.{List, [], _∷_, _++_}
 use Prim.Native.Nat.{ℕ, suc, _<_, _≤_}

@@ -1,4 +1,4 @@
--- Triples, as document 01 has them: (z,w,n) with exponent k, the matrix that it stands for, and when it is unitary and reduced.
+-- Triples (docs/SCOPE.md, Triples): (z,w,n) with exponent k, the matrix that it stands for, and when it is unitary and reduced.
 use mathlib.Core.Path.{_≡_}
 use Prim.Native.Nat.{ℕ, _^_}
 use lib.IntN.{pos, _+ℤ_}

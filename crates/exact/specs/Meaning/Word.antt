@@ -1,5 +1,5 @@
--- Letters and words, as document 01 has them: each letter's matrix, the product in reading order, T letters, bytes, and which
--- bytes are letters. The alphabet is one for every job, I H S X W T, as document 02's request A2 has it.
+-- Letters and words (docs/SCOPE.md, Letters and words): each letter's matrix, the product in reading order, T letters, bytes, and which
+-- bytes are letters. The alphabet is one for every job, I H S X W T.
 use mathlib.Core.Path.{_≡_}
 use mathlib.Core.List.{List, [], _∷_}
 use Prim.Native.Nat.{ℕ, _+_, _<_}

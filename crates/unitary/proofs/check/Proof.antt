@@ -1,4 +1,4 @@
--- `unitary::check` meets its contract: the tests stand in document 01's order, and each way out is a lemma of `Checked`.
+-- `unitary::check` meets its contract: the tests stand in the order of docs/SCOPE.md, Refusals, and each way out is a lemma of `Checked`.
 use Rattle.unitary.specs.Checked.{refused-low, refused-high, cast-inside, few-inside, refused-z, refused-w, small-inside}
 use Rattle.unitary.specs.Checked.{refused-sums, all-passed}
 use borrow.Author.Needs.{needs}

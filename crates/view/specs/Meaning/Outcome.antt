@@ -1,4 +1,4 @@
--- Job 7's outcome for every input: refusals 3, 4 and 5 in that order, each exactly when document 01 says, with eight zeros; or the view of the
+-- Job 7's outcome for every input: refusals 3, 4 and 5 in that order (docs/SCOPE.md, Refusals), with eight zeros; or the view of the
 -- triple's matrix: the real and the imaginary part of each entry, row by row.
 use mathlib.Core.Path.{_≡_}
 use Prim.Native.Nat.{ℕ}

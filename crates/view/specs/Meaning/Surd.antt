@@ -1,4 +1,4 @@
--- The real and the imaginary part of a matrix's entry, as document 01 has them: A + B·root two over a power of two, A and B whole.
+-- The real and the imaginary part of a matrix's entry (docs/SCOPE.md, Jobs): A + B·root two over a power of two, A and B whole.
 -- A ring number (a,b,c,d) is d + (c - a) over root two, and i times b + (c + a) over root two. `Tied` proves both in the ring itself.
 use mathlib.Core.Bool.{Bool, cond}
 use Prim.Native.Nat.{ℕ, _+_, _/_, _%_}
