@@ -1,6 +1,7 @@
 //! The differences that docs/DIFFERENCES.md marks with a star, each at its smallest input, both sides as it has them.
 
 use crate::abi::{self, Written};
+use crate::exact::Matrix;
 use crate::report::Report;
 use crate::rust;
 
@@ -70,11 +71,7 @@ pub fn all(report: &mut Report) {
         "listed: z = w = 1 at k = 0 panics in the Rust's synthesis, is refused 5 here",
         rust::synthesise(0, 0, &both).is_none() && abi::synthesise(0, 0, &both, 1, &Written::refused(5, 0)).is_none(),
     );
-    say(
-        report,
-        "listed: k = -1 panics in the Rust, is refused 3 here",
-        rust::reduce(-1, 0, &one).is_none() && abi::reduce(-1, 0, &one) == Some((3, [0; 10])),
-    );
+    below_zero(report);
     let long = "W".repeat(4097);
     say(
         report,
@@ -118,4 +115,57 @@ pub fn all(report: &mut Report) {
         "listed: T is TI in the Rust, and refused 7 here with room for one byte",
         given("T").as_deref() == Some("TI") && abi::normalise(b"T", 1, &Written::refused(7, 0)).is_none(),
     );
+}
+
+/// Exponents below 0. The Rust's job 1 divides z, then w, by 2 as often as the coefficients let it, and a 0 lets it k
+/// times: at these exponents it panics exactly where a coefficient is 0.
+fn below_zero(report: &mut Report) {
+    let (ones, one) = ([1; 8], [0, 0, 0, 1, 0, 0, 0, 0]);
+    say(
+        report,
+        "listed: k = -1 with z = w = 0, or z = 1 and w = 0, panics in the Rust's jobs 1 and 4, is refused 3 here",
+        [[0; 8], one].iter().all(|zw| {
+            rust::reduce(-1, 0, zw).is_none() && rust::synthesise(-1, 0, zw).is_none() && refused_3(-1, 0, zw)
+        }),
+    );
+    say(
+        report,
+        "listed: k = -1, z = w = (1,1,1,1) is z = w = (0,2,2,0) in the Rust's job 1, is refused 3 here",
+        rust::reduce(-1, 0, &ones) == Some(Some([0, 0, 0, 2, 2, 0, 0, 2, 2, 0])) && refused_3(-1, 0, &ones),
+    );
+    say(
+        report,
+        "listed: k = -2, n = 255, z = w = (1,1,1,1) is n = 7, z = w = (2,2,2,2) in the Rust's job 1, is refused 3 here",
+        rust::reduce(-2, 255, &ones) == Some(Some([0, 7, 2, 2, 2, 2, 2, 2, 2, 2])) && refused_3(-2, 255, &ones),
+    );
+    let as_listed = |k: i64, n: u8, zw: &[i64; 8]| {
+        let reduced = rust::reduce(k, n, zw);
+        let right = if zw.contains(&0) {
+            reduced.is_none()
+        } else {
+            reduced.flatten().is_some_and(|numbers| same_below_zero(k, n, zw, &numbers))
+        };
+        right && rust::synthesise(k, n, zw).is_none() && refused_3(k, n, zw)
+    };
+    say(
+        report,
+        "listed: at k = -1 and k = -2, of all triples of 0, 1 and -1, the Rust's job 1 answers those without 0, job 4 none",
+        (0..6561).all(|i| {
+            let zw = [1, 3, 9, 27, 81, 243, 729, 2187].map(|p| [0, 1, -1][i / p % 3]);
+            [(-1, 0), (-1, 255), (-2, 0), (-2, 255)].iter().all(|(k, n)| as_listed(*k, *n, &zw))
+        }),
+    );
+}
+
+/// Jobs 1, 4 and 7 here.
+fn refused_3(k: i64, n: u8, zw: &[i64; 8]) -> bool {
+    abi::reduce(k, n, zw) == Some((3, [0; 10]))
+        && abi::synthesise(k, n, zw, 1, &Written::refused(3, 0)).is_none()
+        && abi::view(k, n, zw).is_some_and(|(number, floats)| number == 3 && floats.iter().all(|x| x.to_bits() == 0))
+}
+
+/// Numbers at exponent 0 are the matrix of a triple at k below 0: each of the two over root two to the -k, they agree.
+fn same_below_zero(k: i64, n: u8, zw: &[i64; 8], numbers: &[i64; 10]) -> bool {
+    numbers[..2] == [0, i64::from(n & 7)]
+        && Matrix::triple(-k, n & 7, &numbers[2..]).reduced() == Matrix::triple(0, n, zw)
 }
