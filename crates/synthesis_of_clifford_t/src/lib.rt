@@ -74,6 +74,7 @@ enum Reduction {
 }
 
 // The step at a reduced unitary triple: H·T^-m from the left, then as many divisions by root two as there are.
+// The method of this name (crate unitary) does something else: it finds the least exponent. So it is in the Rust: src/unitary.rs, src/ring/d_omega.rs.
 fn reduce_denomexp(t: DOmegaUnitary) -> Reduction
     requires { ⌜ Good t ⌝ ∗ ⌜ t .k ≤ deepest ⌝ }
     ensures { λ r. ⌜ answerOf r ≡ reduction (triple t) ⌝ }

@@ -251,6 +251,7 @@ impl DOmegaUnitary {
     }
 
     // The reduced triple of the same matrix, n from 0 to 7: the twos that z and w share at once, then root two at most once.
+    // The function of this name in synthesis_of_clifford_t does something else: one step of synthesis. So it is in the Rust.
     pub fn reduce_denomexp(self) -> DOmegaUnitary
         requires { ⌜ Small (self .z) ⌝ ∗ ⌜ Small (self .w) ⌝ ∗ ⌜ self .k ≤ 61 ⌝ }
         ensures { λ r. ⌜ Answers (entries (triple self)) (triple r) ⌝ }
