@@ -1,0 +1,139 @@
+-- The longest normal words: 16 + 24·j letters have a normal word of at most 29 + 32·j letters and a phase-free one of at most 24 + 32·j. Assumes
+-- nothing.
+use mathlib.Core.Path.{_≡_, refl, _∙_, ap}
+use mathlib.Core.Bool.{Bool, true, false}
+use mathlib.Core.List.{List, [], _∷_}
+use Prim.Native.Nat.{ℕ, _+_, _*_, _≤_}
+use native.Mathlib.Omega.{arith}
+use lib.Dec.{T, leb, leb→le}
+use lib.ListN.{length, length-append}
+use Rattle.exact.specs.Meaning.Word.{Letter, I, H, S, X, W, T′, word}
+use Rattle.exact.specs.Meaning.Normal.{Syllable, HT, SHT, Tail, tailWord, orI, spell, noW, withoutW, NormalOf, PhaseFreeOf}
+use Rattle.exact.specs.Meaning.Limits.{longest, normalEnough, phaseFreeEnough}
+use Rattle.exact.specs.Matrices.Same.{Same-sym, Same-trans}
+use Rattle.exact.specs.Unique.Normal.{unique}
+use Rattle.exact.specs.Unique.PhaseFree.{phase-free-once}
+use Rattle.clifford.specs.declared.Axis.{Axis}
+use Rattle.clifford.specs.declared.Axis.the-variants as Axis
+use Rattle.clifford.specs.declared.Clifford.{Clifford}
+use Rattle.clifford.specs.Meaning.{Ranged}
+use Rattle.clifford.specs.Cliffords.{mulC, invC, splitC, tconjC, cliffordI, cliffordS, cliffordHS, cliffordSHS}
+use Rattle.reading.specs.Readings.{State, prefix, prefix-length, start, start-ranged, tee, read, read-ranged, run, tailAt, shapeTo, spelled}
+use Rattle.reading.specs.Readings.{shape, normal, normal-of, phase-free}
+use Rattle.reading.specs.Growth.{most, most-left, most-right, mostOf, teed, after, better, better-upper, Table, value, tabled, tabled-value}
+use Rattle.reading.specs.Growth.{again, again-none, again-last, periodTest, growth}
+
+-- ---- a reading's syllables, and what f gives for its Clifford
+abbrev before : State → ℕ
+before st = length (prefix (st .lead) (st .stack))
+
+abbrev sized : (Clifford → ℕ) → State → ℕ
+sized f st = before st + f (st .q)
+
+-- what a T that meets a syllable may leave
+record Met (f : Clifford → ℕ) (r : Clifford) : Type 0 where
+  none : f r + 1 ≤ teed f Axis.I r
+  T-met : f (mulC cliffordS r) ≤ teed f Axis.I r + 1
+  HT-met : f (mulC cliffordHS r) ≤ teed f Axis.I r + 2
+  SHT-met : f (mulC cliffordSHS r) ≤ teed f Axis.I r + 3
+
+met : (f : Clifford → ℕ) (r : Clifford) → Met f r
+unfolding most
+met f r = record { none = omega arith; T-met = omega arith; HT-met = omega arith; SHT-met = omega arith }
+
+tee-sized : (f : Clifford → ℕ) (a : Axis) (r : Clifford) (b : Bool) (ss : List Syllable)
+    → sized f (tee a r b ss) ≤ length (prefix b ss) + teed f a r
+tee-sized f Axis.H r b ss = omega (arith, prefix-length b HT ss)
+tee-sized f Axis.SH r b ss = omega (arith, prefix-length b SHT ss)
+tee-sized f Axis.I r b (HT ∷ ss) = omega (arith, prefix-length b HT ss, met f r .HT-met)
+tee-sized f Axis.I r b (SHT ∷ ss) = omega (arith, prefix-length b SHT ss, met f r .SHT-met)
+tee-sized f Axis.I r true [] = omega (arith, met f r .T-met)
+tee-sized f Axis.I r false [] = omega (arith, met f r .none)
+
+read-sized : (f : Clifford → ℕ) (l : Letter) (st : State) → sized f (read l st) ≤ before st + after f (st .q) l
+read-sized f I st = omega arith
+read-sized f H st = omega arith
+read-sized f S st = omega arith
+read-sized f X st = omega arith
+read-sized f W st = omega arith
+read-sized f T′ st = tee-sized f (tconjC (st .q) .axis) (tconjC (st .q) .rest) (st .lead) (st .stack)
+
+-- ---- so the letters to come are worth no more than their table says
+run-sized : (reward : Clifford → ℕ) (u : List Letter) (st : State) → Ranged (st .q)
+    → sized reward (run st u) ≤ before st + value (again (length u) (tabled reward)) (st .q)
+run-sized reward [] st h =
+    omega (arith, ap (λ t. value t (st .q)) (again-none (tabled reward)), tabled-value (st .q) h reward)
+run-sized reward (l ∷ u) st h =
+    let f = value (again (length u) (tabled reward)) in
+    omega (
+      arith,
+      run-sized reward u (read l st) (read-ranged l st h),
+      read-sized f l st,
+      better-upper f (st .q) l,
+      ap (λ t. value t (st .q)) (again-last (length u) (tabled reward)),
+      tabled-value (st .q) h (better f),
+    )
+
+-- ---- the letters of a tail, with or without W
+abbrev written : Bool → Tail → Tail
+written true t = t
+written false t = noW t
+
+abbrev tailSize : Bool → Clifford → ℕ
+tailSize phase q = length (orI (tailWord (written phase (tailAt (splitC q)))))
+
+-- 24 letters more than 16 or over are worth 32 at most
+whole-tested : T (periodTest (tabled (tailSize true)))
+unfolding mulC invC tconjC most mostOf better value tabled again periodTest
+whole-tested = tt
+
+free-tested : T (periodTest (tabled (tailSize false)))
+unfolding mulC invC tconjC most mostOf better value tabled again periodTest
+free-tested = tt
+
+tested : (phase : Bool) → T (periodTest (tabled (tailSize phase)))
+tested true = whole-tested
+tested false = free-tested
+
+-- and 16 are worth so many
+abbrev sixteen : Bool → ℕ
+sixteen true = 29
+sixteen false = 24
+
+sixteen-test : (phase : Bool) → T (leb (value (again 16 (tabled (tailSize phase))) cliffordI) (sixteen phase))
+unfolding mulC invC tconjC most mostOf better value tabled again
+sixteen-test true = tt
+sixteen-test false = tt
+
+text-few : (phase : Bool) (u : List Letter) (j : ℕ) → length u ≤ 16 + 24 * j
+    → length (spell (shapeTo (run start u) (written phase (tailAt (splitC (run start u .q)))))) ≤ sixteen phase + 32 * j
+text-few phase u j l =
+    let st = run start u in
+    let tail = written phase (tailAt (splitC (st .q))) in
+    omega (
+      arith,
+      ap length (spelled st tail),
+      length-append (prefix (st .lead) (st .stack)) (orI (tailWord tail)),
+      run-sized (tailSize phase) u start start-ranged,
+      growth (tabled (tailSize phase)) (tested phase) (length u) j l cliffordI start-ranged,
+      leb→le (value (again 16 (tabled (tailSize phase))) cliffordI) (sixteen phase) (sixteen-test phase),
+    )
+
+-- ---- the law, for every word with that matrix
+module _ (u v : List Letter) where
+  pub longest-normal : (j : ℕ) → length u ≤ 16 + 24 * j → NormalOf (word u) v → length v ≤ 29 + 32 * j
+  longest-normal j l a =
+      omega (arith, ap length (unique (a .normal) (normal u) (Same-trans (Same-sym (a .same)) (normal-of u))), text-few true u j l)
+
+  pub longest-phase-free : (j : ℕ) → length u ≤ 16 + 24 * j → PhaseFreeOf (word u) v → length v ≤ 24 + 32 * j
+  longest-phase-free j l a =
+      let own : PhaseFreeOf (word u) (spell (withoutW (shape u))) =
+          record { whole = spell (shape u); phase-free = phase-free u (spell (withoutW (shape u))) refl; same = normal-of u } in
+      omega (arith, ap length (phase-free-once a own), text-few false u j l)
+
+  -- ---- 4,096 letters are 16 + 24·170
+  pub normal-enough : length u ≤ longest → NormalOf (word u) v → length v ≤ normalEnough
+  normal-enough l a = omega (arith, longest-normal 170 (omega arith) a)
+
+  pub phase-free-enough : length u ≤ longest → PhaseFreeOf (word u) v → length v ≤ phaseFreeEnough
+  phase-free-enough l a = omega (arith, longest-phase-free 170 (omega arith) a)
