@@ -1,19 +1,21 @@
 -- How long a reading's text can still become, by its Clifford and by how many letters come: a table of values for each number of letters, which a T
 -- that meets a syllable leaves as if any syllable stood there. A period's test makes a law for any number of letters. Assumes nothing.
 use mathlib.Core.Path.{_≡_, refl, sym, _∙_, ap, subst}
-use mathlib.Core.Bool.{Bool}
+use mathlib.Core.Bool.{Bool, _&&_}
 use mathlib.Core.List.{List, [], _∷_}
 use Prim.Native.Nat.{ℕ, zero, suc, _+_, _-_, _*_, _/_, _%_, _<_, _≤_}
 use native.Mathlib.Omega.{arith}
 use lib.Dec.{T, leb, leb→le}
 use lib.ListN.{getD}
+use mir.Facts.{and-yes}
 use Rattle.exact.specs.Meaning.Word.{Letter, I, H, S, X, W, T′}
 use Rattle.clifford.specs.declared.Axis.{Axis}
 use Rattle.clifford.specs.declared.Axis.the-variants as Axis
 use Rattle.clifford.specs.declared.Clifford.{Clifford}
 use Rattle.clifford.specs.Meaning.{Ranged}
 use Rattle.clifford.specs.Tables.{all, at}
-use Rattle.clifford.specs.Cliffords.{mulC, mul-ranged, tconjC, tconj-ranged, cliffordX, cliffordS, cliffordW, cliffordH, cliffordHS, cliffordSHS}
+use Rattle.clifford.specs.Cliffords.{mulC, mul-ranged, tconjC, tconj-ranged, cliffordI, cliffordX, cliffordS, cliffordW, cliffordH, cliffordHS, cliffordSHS}
+use Rattle.reading.specs.Readings.{start-ranged}
 use Rattle.reading.specs.Steps.{cliffordAt}
 
 -- ---- the greater of two numbers, and the greatest of six, one for each letter
@@ -219,41 +221,49 @@ turns t h (suc j) q k =
       turns t h j q k,
     )
 
--- by a test at every Clifford, after 16 letters
-unfoldable pub periodTest : Table → Bool
-periodTest t =
+-- ---- a test of the table for 16 letters: what it says of the start, and of every Clifford that 24 letters more add at most 32
+abbrev steady : Table → Table → ℕ → ℕ → Bool
+steady u v g p = leb (value v (cliffordAt g p)) (value u (cliffordAt g p) + 32)
+
+unfoldable pub periodTest : Table → ℕ → Bool
+periodTest t c =
     let u = again 16 t in
     let v = again 24 u in
-    all 24 (λ g. all 8 (λ p. leb (value v (cliffordAt g p)) (value u (cliffordAt g p) + 32)))
+    leb (value u cliffordI) c && all 24 (λ g. all 8 (steady u v g))
 
-period : (t : Table) → T (periodTest t) → Below (value (again 24 (again 16 t))) (value (again 16 t)) 32
-unfolding periodTest
-period t h q k = subst (λ x. value v x ≤ value u x + 32) (code-is q k) (leb→le (value v there) (value u there + 32) tested)
-  where
-    u : Table
-    u = again 16 t
+module _ (t : Table) (c : ℕ) (h : T (periodTest t c)) where
+  abbrev u : Table
+  u = again 16 t
 
-    v : Table
-    v = again 24 (again 16 t)
+  abbrev v : Table
+  v = again 24 (again 16 t)
 
-    there : Clifford
-    there = cliffordAt (codeOf q) (q .d)
+  tests : T (leb (value u cliffordI) c) × T (all 24 (λ g. all 8 (steady u v g)))
+  unfolding periodTest
+  tests = and-yes (leb (value u cliffordI) c) (all 24 (λ g. all 8 (steady u v g))) h
 
-    tested : T (leb (value v there) (value u there + 32))
-    tested =
-        at 8 (λ p. leb (value v (cliffordAt (codeOf q) p)) (value u (cliffordAt (codeOf q) p) + 32))
-        (at 24 (λ g. all 8 (λ p. leb (value v (cliffordAt g p)) (value u (cliffordAt g p) + 32))) h (codeOf q) (code-few q k))
-        (q .d) (phase-few q k)
+  period : Below (value v) (value u) 32
+  period q k = subst (λ x. value v x ≤ value u x + 32) (code-is q k) (leb→le (value v there) (value u there + 32) tested)
+    where
+      there : Clifford
+      there = cliffordAt (codeOf q) (q .d)
 
-pub growth : (t : Table) → T (periodTest t) → (n j : ℕ) → n ≤ 16 + 24 * j → Below (value (again n t)) (value (again 16 t)) (32 * j)
-growth t h n j l q k =
-    let d = 16 + 24 * j - n in
-    let e : n + d ≡ 16 + 24 * j = omega arith in
-    omega (
-      arith,
-      again-grows d (again n t) q k,
-      ap (λ x. value x q) (again-sum n d t),
-      ap (λ m. value (again m t) q) e,
-      ap (λ x. value x q) (again-sum 16 (24 * j) t),
-      turns (again 16 t) (period t h) j q k,
-    )
+      tested : T (steady u v (codeOf q) (q .d))
+      tested =
+          at 8 (steady u v (codeOf q)) (at 24 (λ g. all 8 (steady u v g)) (tests .1) (codeOf q) (code-few q k))
+          (q .d) (phase-few q k)
+
+  -- so many letters, from the start
+  pub growth : (n j : ℕ) → n ≤ 16 + 24 * j → value (again n t) cliffordI ≤ c + 32 * j
+  growth n j l =
+      let d = 16 + 24 * j - n in
+      let e : n + d ≡ 16 + 24 * j = omega arith in
+      omega (
+        arith,
+        again-grows d (again n t) cliffordI start-ranged,
+        ap (λ x. value x cliffordI) (again-sum n d t),
+        ap (λ m. value (again m t) cliffordI) e,
+        ap (λ x. value x cliffordI) (again-sum 16 (24 * j) t),
+        turns u period j cliffordI start-ranged,
+        leb→le (value u cliffordI) c (tests .0),
+      )

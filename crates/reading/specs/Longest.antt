@@ -1,26 +1,27 @@
 -- The longest normal words: 16 + 24·j letters have a normal word of at most 29 + 32·j letters and a phase-free one of at most 24 + 32·j. Assumes
 -- nothing.
 use mathlib.Core.Path.{_≡_, refl, _∙_, ap}
-use mathlib.Core.Bool.{Bool, true, false}
+use mathlib.Core.Bool.{Bool, true, false, _&&_}
 use mathlib.Core.List.{List, [], _∷_}
-use Prim.Native.Nat.{ℕ, _+_, _*_, _≤_}
+use Prim.Native.Nat.{ℕ, zero, suc, _+_, _*_, _≤_}
 use native.Mathlib.Omega.{arith}
-use lib.Dec.{T, leb, leb→le}
+use lib.Dec.{T, leb, leb→le, eqb, eqb→eq}
+use mir.Facts.{and-yes}
 use lib.ListN.{length, length-append}
+use Rattle.exact.specs.Meaning.Matrix.{Matrix}
 use Rattle.exact.specs.Meaning.Word.{Letter, I, H, S, X, W, T′, word}
 use Rattle.exact.specs.Meaning.Normal.{Syllable, HT, SHT, Tail, tailWord, orI, spell, noW, withoutW, NormalOf, PhaseFreeOf}
 use Rattle.exact.specs.Meaning.Limits.{longest, normalEnough, phaseFreeEnough}
-use Rattle.exact.specs.Matrices.Same.{Same-sym, Same-trans}
-use Rattle.exact.specs.Unique.Normal.{unique}
 use Rattle.exact.specs.Unique.PhaseFree.{phase-free-once}
+use Rattle.exact.specs.Outcomes.Places.{one-normal}
 use Rattle.clifford.specs.declared.Axis.{Axis}
 use Rattle.clifford.specs.declared.Axis.the-variants as Axis
 use Rattle.clifford.specs.declared.Clifford.{Clifford}
 use Rattle.clifford.specs.Meaning.{Ranged}
-use Rattle.clifford.specs.Cliffords.{mulC, invC, splitC, tconjC, cliffordI, cliffordS, cliffordHS, cliffordSHS}
+use Rattle.clifford.specs.Cliffords.{mulC, invC, splitC, tconjC, cliffordS, cliffordHS, cliffordSHS}
 use Rattle.reading.specs.Readings.{State, prefix, prefix-length, start, start-ranged, tee, read, read-ranged, run, tailAt, shapeTo, spelled}
 use Rattle.reading.specs.Readings.{shape, normal, normal-of, phase-free}
-use Rattle.reading.specs.Growth.{most, most-left, most-right, mostOf, teed, after, better, better-upper, Table, value, tabled, tabled-value}
+use Rattle.reading.specs.Growth.{most, mostOf, teed, after, better, better-upper, value, tabled, tabled-value}
 use Rattle.reading.specs.Growth.{again, again-none, again-last, periodTest, growth}
 
 -- ---- a reading's syllables, and what f gives for its Clifford
@@ -82,28 +83,22 @@ written false t = noW t
 abbrev tailSize : Bool → Clifford → ℕ
 tailSize phase q = length (orI (tailWord (written phase (tailAt (splitC q)))))
 
--- 24 letters more than 16 or over are worth 32 at most
-whole-tested : T (periodTest (tabled (tailSize true)))
-unfolding mulC invC tconjC most mostOf better value tabled again periodTest
-whole-tested = tt
-
-free-tested : T (periodTest (tabled (tailSize false)))
-unfolding mulC invC tconjC most mostOf better value tabled again periodTest
-free-tested = tt
-
-tested : (phase : Bool) → T (periodTest (tabled (tailSize phase)))
-tested true = whole-tested
-tested false = free-tested
-
--- and 16 are worth so many
+-- what 16 letters can come to
 abbrev sixteen : Bool → ℕ
 sixteen true = 29
 sixteen false = 24
 
-sixteen-test : (phase : Bool) → T (leb (value (again 16 (tabled (tailSize phase))) cliffordI) (sixteen phase))
-unfolding mulC invC tconjC most mostOf better value tabled again
-sixteen-test true = tt
-sixteen-test false = tt
+whole-tested : T (periodTest (tabled (tailSize true)) 29)
+unfolding mulC invC tconjC most mostOf better value tabled again periodTest
+whole-tested = tt
+
+free-tested : T (periodTest (tabled (tailSize false)) 24)
+unfolding mulC invC tconjC most mostOf better value tabled again periodTest
+free-tested = tt
+
+tested : (phase : Bool) → T (periodTest (tabled (tailSize phase)) (sixteen phase))
+tested true = whole-tested
+tested false = free-tested
 
 text-few : (phase : Bool) (u : List Letter) (j : ℕ) → length u ≤ 16 + 24 * j
     → length (spell (shapeTo (run start u) (written phase (tailAt (splitC (run start u .q)))))) ≤ sixteen phase + 32 * j
@@ -115,25 +110,64 @@ text-few phase u j l =
       ap length (spelled st tail),
       length-append (prefix (st .lead) (st .stack)) (orI (tailWord tail)),
       run-sized (tailSize phase) u start start-ranged,
-      growth (tabled (tailSize phase)) (tested phase) (length u) j l cliffordI start-ranged,
-      leb→le (value (again 16 (tabled (tailSize phase))) cliffordI) (sixteen phase) (sixteen-test phase),
+      growth (tabled (tailSize phase)) (sixteen phase) (tested phase) (length u) j l,
     )
+
+-- ---- the words themselves: what each has as its normal word, and as its phase-free one
+abbrev freed : List Letter → List Letter
+freed u = spell (withoutW (shape u))
+
+normal-is : (u : List Letter) → NormalOf (word u) (spell (shape u))
+normal-is u = record { normal = normal u; same = normal-of u }
+
+freed-is : (u : List Letter) → PhaseFreeOf (word u) (freed u)
+freed-is u = record { whole = spell (shape u); phase-free = phase-free u (freed u) refl; same = normal-of u }
 
 -- ---- the law, for every word with that matrix
 module _ (u v : List Letter) where
   pub longest-normal : (j : ℕ) → length u ≤ 16 + 24 * j → NormalOf (word u) v → length v ≤ 29 + 32 * j
   longest-normal j l a =
-      omega (arith, ap length (unique (a .normal) (normal u) (Same-trans (Same-sym (a .same)) (normal-of u))), text-few true u j l)
+      omega (arith, ap length (one-normal (word u) v (spell (shape u)) a (normal-is u)), text-few true u j l)
 
   pub longest-phase-free : (j : ℕ) → length u ≤ 16 + 24 * j → PhaseFreeOf (word u) v → length v ≤ 24 + 32 * j
-  longest-phase-free j l a =
-      let own : PhaseFreeOf (word u) (spell (withoutW (shape u))) =
-          record { whole = spell (shape u); phase-free = phase-free u (spell (withoutW (shape u))) refl; same = normal-of u } in
-      omega (arith, ap length (phase-free-once a own), text-few false u j l)
+  longest-phase-free j l a = omega (arith, ap length (phase-free-once a (freed-is u)), text-few false u j l)
 
-  -- ---- 4,096 letters are 16 + 24·170
+  -- 4,096 letters are 16 + 24·170
   pub normal-enough : length u ≤ longest → NormalOf (word u) v → length v ≤ normalEnough
   normal-enough l a = omega (arith, longest-normal 170 (omega arith) a)
 
   pub phase-free-enough : length u ≤ longest → PhaseFreeOf (word u) v → length v ≤ phaseFreeEnough
   phase-free-enough l a = omega (arith, longest-phase-free 170 (omega arith) a)
+
+-- ---- no less is enough: a word that is not too long has an answer of n letters
+pub record Attained (Of : Matrix → List Letter → Type 0) (n : ℕ) : Type 0 where
+  pub letters : List Letter
+  pub answer : List Letter
+  pub few : length letters ≤ longest
+  pub holds : Of (word letters) answer
+  pub size : length answer ≡ n
+
+attained : (Of : Matrix → List Letter → Type 0) (f : List Letter → List Letter) → ((u : List Letter) → Of (word u) (f u)) → (n : ℕ) (u : List Letter)
+    → T (leb (length u) longest && eqb (length (f u)) n) → Attained Of n
+attained Of f h n u t =
+    let s = and-yes (leb (length u) longest) (eqb (length (f u)) n) t in
+    record { letters = u; answer = f u; few = leb→le (length u) longest (s .0); holds = h u; size = eqb→eq (length (f u)) n (s .1) }
+
+-- HT so many times
+abbrev pairs : ℕ → List Letter
+pairs zero = []
+pairs (suc n) = H ∷ T′ ∷ pairs n
+
+normal-test : T (leb (length (X ∷ H ∷ X ∷ T′ ∷ pairs 2046)) longest && eqb (length (spell (shape (X ∷ H ∷ X ∷ T′ ∷ pairs 2046)))) normalEnough)
+unfolding mulC invC tconjC
+normal-test = tt
+
+freed-test : T (leb (length (X ∷ T′ ∷ pairs 2047)) longest && eqb (length (freed (X ∷ T′ ∷ pairs 2047))) phaseFreeEnough)
+unfolding mulC invC tconjC
+freed-test = tt
+
+pub normal-attained : Attained NormalOf normalEnough
+normal-attained = attained NormalOf (λ u. spell (shape u)) normal-is normalEnough (X ∷ H ∷ X ∷ T′ ∷ pairs 2046) normal-test
+
+pub phase-free-attained : Attained PhaseFreeOf phaseFreeEnough
+phase-free-attained = attained PhaseFreeOf freed freed-is phaseFreeEnough (X ∷ T′ ∷ pairs 2047) freed-test
