@@ -1,14 +1,14 @@
 -- 5,469 bytes are always enough for job 3 and 5,464 for job 5: with that room neither refuses 7, and a word that is not too long is answered.
 -- Assumes nothing.
-use mathlib.Core.Path.{_≡_, sym, _∙_, ap}
+use mathlib.Core.Path.{_≡_, refl, sym, _∙_, ap}
 use mathlib.Core.List.{List}
-use Prim.Native.Nat.{ℕ, _≤_}
+use Prim.Native.Nat.{ℕ, _<_, _≤_}
 use native.Mathlib.Omega.{arith}
 use lib.ListN.{length}
 use Rattle.exact.specs.Meaning.Word.{Letter, bytes, Spelled}
-use Rattle.exact.specs.Meaning.Limits.{longest, normalEnough, phaseFreeEnough, Accepted, Room}
+use Rattle.exact.specs.Meaning.Limits.{longest, normalEnough, phaseFreeEnough, Accepted, Long, Letter as LETTER, Room}
 use Rattle.exact.specs.Meaning.Outcome.{Rung}
-use Rattle.exact.specs.Meaning.Lent.{lent, untouched, Writes}
+use Rattle.exact.specs.Meaning.Lent.{lent, over, untouched, Writes}
 use Rattle.exact.specs.Meaning.Refusals.{TooMany}
 use Rattle.exact.specs.Cases.Letters.{bytes-length, none-outside}
 use Rattle.exact.specs.Outcomes.Ladder.{answered}
@@ -18,7 +18,7 @@ use Rattle.normal_form.specs.declared.Written.{Written}
 use Rattle.normal_form.specs.Meaning.{Normalises, DropsPhase, refused, counts, wordRefusals, WordOutcome, NormaliseOutcome, PhaseFreeOutcome}
 
 -- ---- no answer to a word that is not too long has more than n letters
-module _ (Answer : List Letter → List Letter → Type 0) (n : ℕ) (short : (u v : List Letter) → length u ≤ longest → Answer u v → length v ≤ n)
+module _ (Answer : List Letter → List Letter → Type 0) (n : ℕ) (few : (u v : List Letter) → length u ≤ longest → Answer u v → length v ≤ n)
     (old : List ℕ) (k : n ≤ length old) where
   fits : (w : List ℕ) → length w ≤ longest → TooMany bytes (Spelled Answer w) old → ⊥
   fits w l m =
@@ -27,7 +27,7 @@ module _ (Answer : List Letter → List Letter → Type 0) (n : ℕ) (short : (u
         arith,
         m .more,
         bytes-length (m .v),
-        short (a .letters) (m .v) (omega (arith, bytes-length (a .letters), ap length (a .spelled))) (a .holds),
+        few (a .letters) (m .v) (omega (arith, bytes-length (a .letters), ap length (a .spelled))) (a .holds),
       )
 
   module _ (r : Written) (new : List ℕ) where
@@ -36,10 +36,12 @@ module _ (Answer : List Letter → List Letter → Type 0) (n : ℕ) (short : (u
     other x b e f g = f (sym (ap (λ (y : Written). y .refusal) (handed-same e)) ∙ g)
 
     never-room : (w : List ℕ) → WordOutcome Answer w old r new → r .refusal ≡ Room → ⊥
-    never-room w (Rung.given p h e) = other (refused _ p) old e (λ g. omega arith)
-    never-room w (Rung.passed s (Rung.given p h e)) = other (refused _ p) old e (λ g. omega arith)
-    never-room w (Rung.passed s (Rung.passed i (Rung.given p h e))) = λ g. fits w (omega arith) (h .0)
-    never-room w (Rung.passed s (Rung.passed i (Rung.passed m a))) = other (counts (a .v)) _ (a .is) (λ g. omega arith)
+    never-room w (Rung.given p h e) g = other (refused Long p) old e (λ f. omega arith) g
+    never-room w (Rung.passed s (Rung.given p h e)) g = other (refused LETTER p) old e (λ f. omega arith) g
+    never-room w (Rung.passed s (Rung.passed i (Rung.given p h e))) g =
+        let short : (longest < length w → ⊥) = λ l. s 0 (l, refl) in
+        fits w (omega arith) (h .0)
+    never-room w (Rung.passed s (Rung.passed i (Rung.passed m a))) g = other (counts (a .v)) (over (bytes (a .v)) old) (a .is) (λ f. omega arith) g
 
     taken : (u : List Letter) → length u ≤ longest → WordOutcome Answer (bytes u) old r new → r .refusal ≡ Accepted
     taken u l o =
