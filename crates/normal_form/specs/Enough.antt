@@ -1,5 +1,5 @@
--- 5,469 bytes are always enough for job 3 and 5,464 for job 5: with that room neither refuses 7, and a word that is not too long is answered.
--- Assumes nothing.
+-- 5,469 bytes are always enough for job 3 and 5,464 for job 5: with that room neither refuses 7, and a word that is not too long is answered;
+-- and no fewer are enough. Assumes nothing.
 use mathlib.Core.Path.{_≡_, refl, sym, _∙_, ap}
 use mathlib.Core.List.{List}
 use Prim.Native.Nat.{ℕ, _<_, _≤_}
@@ -13,9 +13,11 @@ use Rattle.exact.specs.Meaning.Refusals.{TooMany}
 use Rattle.exact.specs.Cases.Letters.{bytes-length, none-outside}
 use Rattle.exact.specs.Outcomes.Ladder.{answered}
 use Rattle.exact.specs.Outcomes.Lent.{handed-same}
-use Rattle.reading.specs.Longest.{normal-enough, phase-free-enough}
+use Rattle.reading.specs.Longest.{normal-enough, phase-free-enough, normal-attained, phase-free-attained}
 use Rattle.normal_form.specs.declared.Written.{Written}
 use Rattle.normal_form.specs.Meaning.{Normalises, DropsPhase, refused, counts, wordRefusals, WordOutcome, NormaliseOutcome, PhaseFreeOutcome}
+use Rattle.normal_form.specs.Unique.{normalises-single, drops-single}
+use Rattle.normal_form.specs.Theorems.{only-refused}
 
 -- ---- no answer to a word that is not too long has more than n letters
 module _ (Answer : List Letter → List Letter → Type 0) (n : ℕ) (few : (u v : List Letter) → length u ≤ longest → Answer u v → length v ≤ n)
@@ -46,11 +48,10 @@ module _ (Answer : List Letter → List Letter → Type 0) (n : ℕ) (few : (u v
     taken : (u : List Letter) → length u ≤ longest → WordOutcome Answer (bytes u) old r new → r .refusal ≡ Accepted
     taken u l o =
         let a =
-            answered (untouched refused old) (Writes bytes counts (Spelled Answer (bytes u)) old) (wordRefusals Answer (bytes u) old)
-            (
-              (λ p h. omega (arith, h .0, bytes-length u)),
-              (none-outside u, ((λ p h. fits (bytes u) (omega (arith, bytes-length u)) (h .0)), tt)),
-            ) (lent r new) o in
+        answered (untouched refused old) (Writes bytes counts (Spelled Answer (bytes u)) old) (wordRefusals Answer (bytes u) old) (
+          (λ p h. omega (arith, h .0, bytes-length u)),
+          (none-outside u, ((λ p h. fits (bytes u) (omega (arith, bytes-length u)) (h .0)), tt)),
+        ) (lent r new) o in
         ap (λ (y : Written). y .refusal) (handed-same (a .is))
 
 -- ---- job 3 with 5,469 bytes, job 5 with 5,464
@@ -68,3 +69,18 @@ module _ (old : List ℕ) (r : Written) (new : List ℕ) where
   pub phase-free-taken : phaseFreeEnough ≤ length old → (u : List Letter) → length u ≤ longest → PhaseFreeOutcome (bytes u) old r new
       → r .refusal ≡ Accepted
   phase-free-taken k = taken DropsPhase phaseFreeEnough phase-free-enough old k r new
+
+  -- ---- no less is: with fewer bytes a word of 4,096 letters is refused 7
+  pub normalise-needs : length old < normalEnough → NormaliseOutcome (bytes (normal-attained .letters)) old r new
+      → lent r new ≡ lent (refused Room 0) old
+  normalise-needs l o =
+      let a = normal-attained in
+      only-refused Normalises normalises-single (a .letters) (a .answer) old (a .few) (a .holds) r new
+      (omega (arith, bytes-length (a .answer), a .size)) o
+
+  pub phase-free-needs : length old < phaseFreeEnough → PhaseFreeOutcome (bytes (phase-free-attained .letters)) old r new
+      → lent r new ≡ lent (refused Room 0) old
+  phase-free-needs l o =
+      let a = phase-free-attained in
+      only-refused DropsPhase drops-single (a .letters) (a .answer) old (a .few) (a .holds) r new
+      (omega (arith, bytes-length (a .answer), a .size)) o

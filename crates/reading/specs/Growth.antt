@@ -1,9 +1,9 @@
--- How long a reading's text can still become, by its Clifford and by how many letters come: a table of values for each number of letters, which a T
--- that meets a syllable leaves as if any syllable stood there. A period's test makes a law for any number of letters. Assumes nothing.
-use mathlib.Core.Path.{_≡_, refl, sym, _∙_, ap, subst}
+-- How long a reading's text can become, by its Clifford and by how many letters come: a table of values for each number of letters, in which a T
+-- that removes a syllable may remove any. One computed test, over a round of 24 letters, makes it a law for every number. Assumes nothing.
+use mathlib.Core.Path.{_≡_, refl, sym, _∙_, ap}
 use mathlib.Core.Bool.{Bool, _&&_}
-use mathlib.Core.List.{List, [], _∷_}
-use Prim.Native.Nat.{ℕ, zero, suc, _+_, _-_, _*_, _/_, _%_, _<_, _≤_}
+use mathlib.Core.List.{List, [], _∷_, map}
+use Prim.Native.Nat.{ℕ, zero, suc, max, _+_, _-_, _*_, _<_, _≤_}
 use native.Mathlib.Omega.{arith}
 use lib.Dec.{T, leb, leb→le}
 use lib.ListN.{getD}
@@ -13,257 +13,263 @@ use Rattle.clifford.specs.declared.Axis.{Axis}
 use Rattle.clifford.specs.declared.Axis.the-variants as Axis
 use Rattle.clifford.specs.declared.Clifford.{Clifford}
 use Rattle.clifford.specs.Meaning.{Ranged}
-use Rattle.clifford.specs.Tables.{all, at}
+use Rattle.clifford.specs.Tables.{quadruple, all, at, all3, at3}
 use Rattle.clifford.specs.Cliffords.{mulC, mul-ranged, tconjC, tconj-ranged, cliffordI, cliffordX, cliffordS, cliffordW, cliffordH, cliffordHS, cliffordSHS}
 use Rattle.reading.specs.Readings.{start-ranged}
-use Rattle.reading.specs.Steps.{cliffordAt}
 
--- ---- the greater of two numbers, and the greatest of six, one for each letter
-unfoldable pub most : ℕ → ℕ → ℕ
-most a b = a + (b - a)
+raised : (a b a′ b′ c : ℕ) → a ≤ a′ + c → b ≤ b′ + c → max a b ≤ max a′ b′ + c
+raised a b a′ b′ c h k = omega arith
 
-unfoldable pub mostOf : (Letter → ℕ) → ℕ
-mostOf h = most (h I) (most (h H) (most (h S) (most (h X) (most (h W) (h T′)))))
+-- ---- the greatest of six numbers, one for each letter
+unfoldable pub most : (Letter → ℕ) → ℕ
+most h = max (h I) (max (h H) (max (h S) (max (h X) (max (h W) (h T′)))))
 
-pub most-left : (a b : ℕ) → a ≤ most a b
+most-upper : (h : Letter → ℕ) (l : Letter) → h l ≤ most h
 unfolding most
-most-left a b = omega arith
+most-upper h I = omega arith
+most-upper h H = omega arith
+most-upper h S = omega arith
+most-upper h X = omega arith
+most-upper h W = omega arith
+most-upper h T′ = omega arith
 
-pub most-right : (a b : ℕ) → b ≤ most a b
+most-least : (h : Letter → ℕ) (m : ℕ) → ((l : Letter) → h l ≤ m) → most h ≤ m
 unfolding most
-most-right a b = omega arith
+most-least h m f = omega (arith, f I, f H, f S, f X, f W, f T′)
 
-most-least : (a b m : ℕ) → a ≤ m → b ≤ m → most a b ≤ m
-unfolding most
-most-least a b m h k = omega arith
+-- ---- what a Clifford becomes by each letter; by a T its axis, what is behind that, and what the T and a syllable that it meets make of it
+pub record Moves : Type 0 where
+  pub here : Clifford
+  pub by-H : Clifford
+  pub by-S : Clifford
+  pub by-X : Clifford
+  pub by-W : Clifford
+  pub axis : Axis
+  pub rest : Clifford
+  pub met-T : Clifford
+  pub met-HT : Clifford
+  pub met-SHT : Clifford
 
-most-below : (a b a′ b′ c : ℕ) → a ≤ a′ + c → b ≤ b′ + c → most a b ≤ most a′ b′ + c
-most-below a b a′ b′ c h k = most-least a b (most a′ b′ + c) (omega (arith, most-left a′ b′)) (omega (arith, most-right a′ b′))
+abbrev pub movesOf : Clifford → Moves
+movesOf q =
+    record {
+      here = q;
+      by-H = mulC q cliffordH;
+      by-S = mulC q cliffordS;
+      by-X = mulC q cliffordX;
+      by-W = mulC q cliffordW;
+      axis = tconjC q .axis;
+      rest = tconjC q .rest;
+      met-T = mulC cliffordS (tconjC q .rest);
+      met-HT = mulC cliffordHS (tconjC q .rest);
+      met-SHT = mulC cliffordSHS (tconjC q .rest);
+    }
 
-pub mostOf-upper : (h : Letter → ℕ) (l : Letter) → h l ≤ mostOf h
-unfolding most mostOf
-mostOf-upper h I = omega arith
-mostOf-upper h H = omega arith
-mostOf-upper h S = omega arith
-mostOf-upper h X = omega arith
-mostOf-upper h W = omega arith
-mostOf-upper h T′ = omega arith
+-- ---- one letter more, where f is what can come of each Clifford: a T adds a syllable, or it removes the last one, whichever that is
+abbrev pub teed : (Clifford → ℕ) → Moves → Axis → ℕ
+teed f m Axis.H = f (m .rest) + 2
+teed f m Axis.SH = f (m .rest) + 3
+teed f m Axis.I = max (f (m .rest) + 1) (max (f (m .met-T) - 1) (max (f (m .met-HT) - 2) (f (m .met-SHT) - 3)))
 
-mostOf-least : (h : Letter → ℕ) (m : ℕ) → ((l : Letter) → h l ≤ m) → mostOf h ≤ m
-unfolding mostOf
-mostOf-least h m f =
-    let x5 = most (h W) (h T′) in
-    let x4 = most (h X) x5 in
-    let x3 = most (h S) x4 in
-    most-least (h I) (most (h H) x3) m (f I)
-    (most-least (h H) x3 m (f H)
-    (most-least (h S) x4 m (f S) (most-least (h X) x5 m (f X) (most-least (h W) (h T′) m (f W) (f T′)))))
+abbrev pub after : (Clifford → ℕ) → Moves → Letter → ℕ
+after f m I = f (m .here)
+after f m H = f (m .by-H)
+after f m S = f (m .by-S)
+after f m X = f (m .by-X)
+after f m W = f (m .by-W)
+after f m T′ = teed f m (m .axis)
 
--- ---- one letter more, f being what can come of each Clifford
--- a T whose axis is a, with r behind it: it adds a syllable, or it removes the last one, whichever that is
-abbrev pub teed : (Clifford → ℕ) → Axis → Clifford → ℕ
-teed f Axis.H r = f r + 2
-teed f Axis.SH r = f r + 3
-teed f Axis.I r = most (f r + 1) (most (f (mulC cliffordS r) - 1) (most (f (mulC cliffordHS r) - 2) (f (mulC cliffordSHS r) - 3)))
+unfoldable pub better : (Clifford → ℕ) → Moves → ℕ
+better f m = most (after f m)
 
-abbrev pub after : (Clifford → ℕ) → Clifford → Letter → ℕ
-after f q I = f q
-after f q H = f (mulC q cliffordH)
-after f q S = f (mulC q cliffordS)
-after f q X = f (mulC q cliffordX)
-after f q W = f (mulC q cliffordW)
-after f q T′ = teed f (tconjC q .axis) (tconjC q .rest)
-
-unfoldable pub better : (Clifford → ℕ) → Clifford → ℕ
-better f q = mostOf (after f q)
-
-pub better-upper : (f : Clifford → ℕ) (q : Clifford) (l : Letter) → after f q l ≤ better f q
+pub better-upper : (f : Clifford → ℕ) (m : Moves) (l : Letter) → after f m l ≤ better f m
 unfolding better
-better-upper f q = mostOf-upper (after f q)
+better-upper f m = most-upper (after f m)
 
 -- ---- f is at most c over g
-abbrev pub Below : (Clifford → ℕ) → (Clifford → ℕ) → ℕ → Type 0
+abbrev Below : (Clifford → ℕ) → (Clifford → ℕ) → ℕ → Type 0
 Below f g c = (q : Clifford) → Ranged q → f q ≤ g q + c
 
-module _ (f g : Clifford → ℕ) (c : ℕ) (h : Below f g c) where
-  less : (s q : Clifford) (n : ℕ) → f (mulC s q) - n ≤ g (mulC s q) - n + c
-  less s q n = omega (arith, h (mulC s q) (mul-ranged s q))
+module _ (f g : Clifford → ℕ) (c : ℕ) (h : Below f g c) (q : Clifford) where
+  less : (s : Clifford) (n : ℕ) → f (mulC s (tconjC q .rest)) - n ≤ g (mulC s (tconjC q .rest)) - n + c
+  less s n = omega (arith, h (mulC s (tconjC q .rest)) (mul-ranged s (tconjC q .rest)))
 
-  teed-below : (a : Axis) (r : Clifford) → Ranged r → teed f a r ≤ teed g a r + c
-  teed-below Axis.H r k = omega (arith, h r k)
-  teed-below Axis.SH r k = omega (arith, h r k)
-  teed-below Axis.I r k =
-      most-below _ _ _ _ c (omega (arith, h r k))
-      (most-below _ _ _ _ c (less cliffordS r 1) (most-below _ _ _ _ c (less cliffordHS r 2) (less cliffordSHS r 3)))
+  teed-below : (a : Axis) → teed f (movesOf q) a ≤ teed g (movesOf q) a + c
+  teed-below Axis.H = omega (arith, h (tconjC q .rest) (tconj-ranged q))
+  teed-below Axis.SH = omega (arith, h (tconjC q .rest) (tconj-ranged q))
+  teed-below Axis.I =
+      raised _ _ _ _ c (omega (arith, h (tconjC q .rest) (tconj-ranged q)))
+      (raised _ _ _ _ c (less cliffordS 1) (raised _ _ _ _ c (less cliffordHS 2) (less cliffordSHS 3)))
 
-  after-below : (q : Clifford) → Ranged q → (l : Letter) → after f q l ≤ after g q l + c
-  after-below q k I = h q k
-  after-below q k H = h (mulC q cliffordH) (mul-ranged q cliffordH)
-  after-below q k S = h (mulC q cliffordS) (mul-ranged q cliffordS)
-  after-below q k X = h (mulC q cliffordX) (mul-ranged q cliffordX)
-  after-below q k W = h (mulC q cliffordW) (mul-ranged q cliffordW)
-  after-below q k T′ = teed-below (tconjC q .axis) (tconjC q .rest) (tconj-ranged q)
+  after-below : Ranged q → (l : Letter) → after f (movesOf q) l ≤ after g (movesOf q) l + c
+  after-below k I = h q k
+  after-below k H = h (mulC q cliffordH) (mul-ranged q cliffordH)
+  after-below k S = h (mulC q cliffordS) (mul-ranged q cliffordS)
+  after-below k X = h (mulC q cliffordX) (mul-ranged q cliffordX)
+  after-below k W = h (mulC q cliffordW) (mul-ranged q cliffordW)
+  after-below k T′ = teed-below (tconjC q .axis)
 
-  better-below : Below (better f) (better g) c
+  better-below : Ranged q → better f (movesOf q) ≤ better g (movesOf q) + c
   unfolding better
-  better-below q k =
-      mostOf-least (after f q) (mostOf (after g q) + c) (λ l. omega (arith, after-below q k l, mostOf-upper (after g q) l))
+  better-below k =
+      most-least (after f (movesOf q)) (most (after g (movesOf q)) + c)
+      (λ l. omega (arith, after-below k l, most-upper (after g (movesOf q)) l))
 
--- ---- tables: 24 rows, one for each code, of 8 phases
-abbrev pub Table : Type 0
-Table = List (List ℕ)
+-- ---- tables, by a, b, c and d of a Clifford
+abbrev pub Table : Type 0 → Type 0
+Table A = List (List (List (List A)))
+
+unfoldable pub value : Table ℕ → Clifford → ℕ
+value t q = getD (getD (getD (getD t (q .a) []) (q .b) []) (q .c) []) (q .d) 0
+
+unfoldable pub mapped : (Moves → ℕ) → Table Moves → Table ℕ
+mapped f t = map (map (map (map f))) t
 
 abbrev listed : {A : Type 0} → ℕ → (ℕ → A) → List A
 listed zero f = []
 listed (suc n) f = f 0 ∷ listed n (λ k. f (suc k))
 
-listed-at : {A : Type 0} (n : ℕ) (f : ℕ → A) (d : A) (k : ℕ) → k < n → getD (listed n f) k d ≡ f k
-listed-at zero f d k h = absurd (omega arith)
-listed-at (suc n) f d zero h = refl
-listed-at (suc n) f d (suc k) h = listed-at n (λ k. f (suc k)) d k (omega arith)
+unfoldable pub moves : Table Moves
+moves = listed 3 (λ a. listed 2 (λ b. listed 4 (λ c. listed 8 (λ d. movesOf (quadruple a b c d)))))
 
-abbrev codeOf : Clifford → ℕ
-codeOf q = q .a * 8 + q .b * 4 + q .c
+listed-at : {A B : Type 0} (n : ℕ) (f : A → B) (g : ℕ → A) (d : B) (k : ℕ) → k < n → getD (map f (listed n g)) k d ≡ f (g k)
+listed-at zero f g d k h = absurd (omega arith)
+listed-at (suc n) f g d zero h = refl
+listed-at (suc n) f g d (suc k) h = listed-at n f (λ k. g (suc k)) d k (omega arith)
 
-unfoldable pub value : Table → Clifford → ℕ
-value t q = getD (getD t (codeOf q) []) (q .d) 0
+pub mapped-value : (q : Clifford) → Ranged q → (f : Moves → ℕ) → value (mapped f moves) q ≡ f (movesOf q)
+unfolding value mapped moves
+mapped-value q h f =
+    ap (λ t. getD (getD (getD t (q .b) []) (q .c) []) (q .d) 0)
+    (listed-at 3 (map (map (map f))) (λ a. listed 2 (λ b. listed 4 (λ c. listed 8 (λ d. movesOf (quadruple a b c d))))) [] (q .a) (omega (arith, h .a-few)))
+    ∙ ap (λ t. getD (getD t (q .c) []) (q .d) 0)
+    (listed-at 2 (map (map f)) (λ b. listed 4 (λ c. listed 8 (λ d. movesOf (quadruple (q .a) b c d)))) [] (q .b) (omega (arith, h .b-few)))
+    ∙ ap (λ t. getD t (q .d) 0)
+    (listed-at 4 (map f) (λ c. listed 8 (λ d. movesOf (quadruple (q .a) (q .b) c d))) [] (q .c) (omega (arith, h .c-few)))
+    ∙ listed-at 8 f (λ d. movesOf (quadruple (q .a) (q .b) (q .c) d)) 0 (q .d) (omega (arith, h .d-few))
 
-unfoldable pub tabled : (Clifford → ℕ) → Table
-tabled f = listed 24 (λ g. listed 8 (λ p. f (cliffordAt g p)))
+-- ---- n letters more, by the table of moves
+unfoldable pub again : Table Moves → ℕ → Table ℕ → Table ℕ
+again m zero t = t
+again m (suc n) t = let u = mapped (better (value t)) m in again m n u
 
-module _ (q : Clifford) (h : Ranged q) where
-  code-few : codeOf q < 24
-  code-few = omega (arith, h .a-few, h .b-few, h .c-few)
+abbrev step : Table ℕ → Table ℕ
+step t = mapped (better (value t)) moves
 
-  phase-few : q .d < 8
-  phase-few = omega (arith, h .d-few)
+-- where none comes, what f gives for the Clifford
+abbrev pub first : (Clifford → ℕ) → Table Moves → Table ℕ
+first f m = mapped (λ x. f (x .here)) m
 
-  code-is : cliffordAt (codeOf q) (q .d) ≡ q
-  code-is =
-      let ea : codeOf q / 8 ≡ q .a = omega (arith, h .b-few, h .c-few) in
-      let eb : codeOf q / 4 % 2 ≡ q .b = omega (arith, h .b-few, h .c-few) in
-      let ec : codeOf q % 4 ≡ q .c = omega (arith, h .c-few) in
-      λ i. record { a = ea i; b = eb i; c = ec i; d = q .d }
+-- at q, after n letters more
+abbrev pub worth : ℕ → Table ℕ → Clifford → ℕ
+worth n t q = value (again moves n t) q
 
-  pub tabled-value : (f : Clifford → ℕ) → value (tabled f) q ≡ f q
-  unfolding value tabled
-  tabled-value f =
-      ap (λ row. getD row (q .d) 0) (listed-at 24 (λ g. listed 8 (λ p. f (cliffordAt g p))) [] (codeOf q) code-few)
-      ∙ listed-at 8 (λ p. f (cliffordAt (codeOf q) p)) 0 (q .d) phase-few
-      ∙ ap f code-is
-
--- ---- n letters more
-abbrev step : Table → Table
-step t = tabled (better (value t))
-
-unfoldable pub again : ℕ → Table → Table
-again zero t = t
-again (suc n) t = let u = step t in again n u
-
-pub again-none : (t : Table) → again 0 t ≡ t
+again-none : (t : Table ℕ) → again moves 0 t ≡ t
 unfolding again
 again-none t = refl
 
-again-first : (n : ℕ) (t : Table) → again (suc n) t ≡ again n (step t)
+again-first : (n : ℕ) (t : Table ℕ) → again moves (suc n) t ≡ again moves n (step t)
 unfolding again
 again-first n t = refl
 
-pub again-last : (n : ℕ) (t : Table) → again (suc n) t ≡ tabled (better (value (again n t)))
+again-last : (n : ℕ) (t : Table ℕ) → again moves (suc n) t ≡ step (again moves n t)
 again-last zero t = again-first 0 t ∙ again-none (step t) ∙ ap step (sym (again-none t))
 again-last (suc n) t = again-first (suc n) t ∙ again-last n (step t) ∙ ap step (sym (again-first n t))
 
-again-sum : (m n : ℕ) (t : Table) → again (m + n) t ≡ again n (again m t)
+again-sum : (m n : ℕ) (t : Table ℕ) → again moves (m + n) t ≡ again moves n (again moves m t)
 again-sum zero n t =
     let e : zero + n ≡ n = omega arith in
-    ap (λ k. again k t) e ∙ ap (again n) (sym (again-none t))
+    ap (λ k. again moves k t) e ∙ ap (again moves n) (sym (again-none t))
 again-sum (suc m) n t =
     let e : suc m + n ≡ suc (m + n) = omega arith in
-    ap (λ k. again k t) e ∙ again-first (m + n) t ∙ again-sum m n (step t) ∙ ap (again n) (sym (again-first m t))
+    ap (λ k. again moves k t) e ∙ again-first (m + n) t ∙ again-sum m n (step t) ∙ ap (again moves n) (sym (again-first m t))
+
+module _ (q : Clifford) (k : Ranged q) where
+  pub worth-none : (f : Clifford → ℕ) → worth 0 (first f moves) q ≡ f q
+  worth-none f = ap (λ x. value x q) (again-none (first f moves)) ∙ mapped-value q k (λ x. f (x .here))
+
+  pub worth-more : (n : ℕ) (t : Table ℕ) → worth (suc n) t q ≡ better (worth n t) (movesOf q)
+  worth-more n t = ap (λ x. value x q) (again-last n t) ∙ mapped-value q k (better (worth n t))
 
 -- a table at most c over another stays so
-again-below : (n : ℕ) (t u : Table) (c : ℕ) → Below (value t) (value u) c → Below (value (again n t)) (value (again n u)) c
-again-below zero t u c h q k =
-    omega (arith, h q k, ap (λ x. value x q) (again-none t), ap (λ x. value x q) (again-none u))
+again-below : (n : ℕ) (t u : Table ℕ) (c : ℕ) → Below (value t) (value u) c → Below (worth n t) (worth n u) c
+again-below zero t u c h q k = omega (arith, h q k, ap (λ x. value x q) (again-none t), ap (λ x. value x q) (again-none u))
 again-below (suc n) t u c h q k =
     omega (
       arith,
-      again-below n (step t) (step u) c stepped q k,
-      ap (λ x. value x q) (again-first n t),
-      ap (λ x. value x q) (again-first n u),
+      worth-more q k n t,
+      worth-more q k n u,
+      better-below (worth n t) (worth n u) c (again-below n t u c h) q k,
     )
-  where
-    stepped : Below (value (step t)) (value (step u)) c
-    stepped q k =
-        omega (arith, tabled-value q k (better (value t)), tabled-value q k (better (value u)), better-below (value t) (value u) c h q k)
 
 -- the letter I adds nothing, so more letters are never worth less
-again-grows : (n : ℕ) (t : Table) → Below (value t) (value (again n t)) 0
+again-grows : (n : ℕ) (t : Table ℕ) → Below (value t) (worth n t) 0
 again-grows zero t q k = omega (arith, ap (λ x. value x q) (again-none t))
 again-grows (suc n) t q k =
-    omega (
-      arith,
-      better-upper (value t) q I,
-      tabled-value q k (better (value t)),
-      again-grows n (step t) q k,
-      ap (λ x. value x q) (again-first n t),
-    )
+    omega (arith, again-grows n t q k, worth-more q k n t, better-upper (worth n t) (movesOf q) I)
 
--- ---- what 24 letters add, so many times
-turns : (t : Table) → Below (value (again 24 t)) (value t) 32 → (j : ℕ) → Below (value (again (24 * j) t)) (value t) (32 * j)
+-- ---- a round of 24 letters, and what it adds at most
+abbrev gain : ℕ
+gain = 32
+
+turns : (t : Table ℕ) → Below (worth 24 t) (value t) gain → (j : ℕ) → Below (worth (24 * j) t) (value t) (gain * j)
 turns t h zero q k = omega (arith, ap (λ x. value x q) (again-none t))
 turns t h (suc j) q k =
     let e : 24 * suc j ≡ 24 + 24 * j = omega arith in
     omega (
       arith,
-      ap (λ n. value (again n t) q) e,
+      ap (λ n. worth n t q) e,
       ap (λ x. value x q) (again-sum 24 (24 * j) t),
-      again-below (24 * j) (again 24 t) t 32 h q k,
+      again-below (24 * j) (again moves 24 t) t gain h q k,
       turns t h j q k,
     )
 
--- ---- a test of the table for 16 letters: what it says of the start, and of every Clifford that 24 letters more add at most 32
-abbrev steady : Table → Table → ℕ → ℕ → Bool
-steady u v g p = leb (value v (cliffordAt g p)) (value u (cliffordAt g p) + 32)
+-- the test, from 16 letters on: what the start is worth then, and that a round adds no more at any Clifford
+abbrev steady : Table ℕ → Table ℕ → Clifford → Bool
+steady u v q = leb (value v q) (value u q + gain)
 
-unfoldable pub periodTest : Table → ℕ → Bool
-periodTest t c =
-    let u = again 16 t in
-    let v = again 24 u in
-    leb (value u cliffordI) c && all 24 (λ g. all 8 (steady u v g))
+abbrev steadyAt : Table ℕ → Table ℕ → ℕ → ℕ → ℕ → Bool
+steadyAt u v a b c = all 8 (λ d. steady u v (quadruple a b c d))
 
-module _ (t : Table) (c : ℕ) (h : T (periodTest t c)) where
-  abbrev u : Table
-  u = again 16 t
+unfoldable pub roundTest : (Clifford → ℕ) → ℕ → Bool
+roundTest f c =
+    let m = moves in
+    let u = again m 16 (first f m) in
+    let v = again m 24 u in
+    leb (value u cliffordI) c && all3 (steadyAt u v)
 
-  abbrev v : Table
-  v = again 24 (again 16 t)
+module _ (f : Clifford → ℕ) (c : ℕ) (h : T (roundTest f c)) where
+  abbrev t : Table ℕ
+  t = first f moves
 
-  tests : T (leb (value u cliffordI) c) × T (all 24 (λ g. all 8 (steady u v g)))
-  unfolding periodTest
-  tests = and-yes (leb (value u cliffordI) c) (all 24 (λ g. all 8 (steady u v g))) h
+  abbrev u : Table ℕ
+  u = again moves 16 t
 
-  period : Below (value v) (value u) 32
-  period q k = subst (λ x. value v x ≤ value u x + 32) (code-is q k) (leb→le (value v there) (value u there + 32) tested)
-    where
-      there : Clifford
-      there = cliffordAt (codeOf q) (q .d)
+  abbrev v : Table ℕ
+  v = again moves 24 u
 
-      tested : T (steady u v (codeOf q) (q .d))
-      tested =
-          at 8 (steady u v (codeOf q)) (at 24 (λ g. all 8 (steady u v g)) (tests .1) (codeOf q) (code-few q k))
-          (q .d) (phase-few q k)
+  tests : T (leb (value u cliffordI) c) × T (all3 (steadyAt u v))
+  unfolding roundTest
+  tests = and-yes (leb (value u cliffordI) c) (all3 (steadyAt u v)) h
 
-  -- so many letters, from the start
-  pub growth : (n j : ℕ) → n ≤ 16 + 24 * j → value (again n t) cliffordI ≤ c + 32 * j
+  round : Below (value v) (value u) gain
+  round q k =
+      leb→le (value v q) (value u q + gain)
+      (at 8 (λ d. steady u v (quadruple (q .a) (q .b) (q .c) d))
+      (at3 (steadyAt u v) (tests .1) (q .a) (q .b) (q .c) (omega (arith, k .a-few)) (omega (arith, k .b-few)) (omega (arith, k .c-few)))
+      (q .d) (omega (arith, k .d-few)))
+
+  -- what so many letters are worth, from the start
+  pub growth : (n j : ℕ) → n ≤ 16 + 24 * j → worth n (first f moves) cliffordI ≤ c + gain * j
   growth n j l =
       let d = 16 + 24 * j - n in
       let e : n + d ≡ 16 + 24 * j = omega arith in
       omega (
         arith,
-        again-grows d (again n t) cliffordI start-ranged,
+        again-grows d (again moves n t) cliffordI start-ranged,
         ap (λ x. value x cliffordI) (again-sum n d t),
-        ap (λ m. value (again m t) cliffordI) e,
+        ap (λ m. worth m t cliffordI) e,
         ap (λ x. value x cliffordI) (again-sum 16 (24 * j) t),
-        turns u period j cliffordI start-ranged,
+        turns u round j cliffordI start-ranged,
         leb→le (value u cliffordI) c (tests .0),
       )

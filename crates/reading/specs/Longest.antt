@@ -18,11 +18,11 @@ use Rattle.clifford.specs.declared.Axis.{Axis}
 use Rattle.clifford.specs.declared.Axis.the-variants as Axis
 use Rattle.clifford.specs.declared.Clifford.{Clifford}
 use Rattle.clifford.specs.Meaning.{Ranged}
-use Rattle.clifford.specs.Cliffords.{mulC, invC, splitC, tconjC, cliffordS, cliffordHS, cliffordSHS}
+use Rattle.clifford.specs.Cliffords.{mulC, invC, splitC, tconjC}
 use Rattle.reading.specs.Readings.{State, prefix, prefix-length, start, start-ranged, tee, read, read-ranged, run, tailAt, shapeTo, spelled}
 use Rattle.reading.specs.Readings.{shape, normal, normal-of, phase-free}
-use Rattle.reading.specs.Growth.{most, mostOf, teed, after, better, better-upper, value, tabled, tabled-value}
-use Rattle.reading.specs.Growth.{again, again-none, again-last, periodTest, growth}
+use Rattle.reading.specs.Growth.{most, movesOf, teed, after, better, better-upper, value, mapped, moves, again, first, worth, worth-none}
+use Rattle.reading.specs.Growth.{worth-more, roundTest, growth}
 
 -- ---- a reading's syllables, and what f gives for its Clifford
 abbrev before : State → ℕ
@@ -31,48 +31,36 @@ before st = length (prefix (st .lead) (st .stack))
 abbrev sized : (Clifford → ℕ) → State → ℕ
 sized f st = before st + f (st .q)
 
--- what a T that meets a syllable may leave
-record Met (f : Clifford → ℕ) (r : Clifford) : Type 0 where
-  none : f r + 1 ≤ teed f Axis.I r
-  T-met : f (mulC cliffordS r) ≤ teed f Axis.I r + 1
-  HT-met : f (mulC cliffordHS r) ≤ teed f Axis.I r + 2
-  SHT-met : f (mulC cliffordSHS r) ≤ teed f Axis.I r + 3
+module _ (f : Clifford → ℕ) where
+  tee-sized : (q : Clifford) (a : Axis) (b : Bool) (ss : List Syllable)
+      → sized f (tee a (tconjC q .rest) b ss) ≤ length (prefix b ss) + teed f (movesOf q) a
+  tee-sized q Axis.H b ss = omega (arith, prefix-length b HT ss)
+  tee-sized q Axis.SH b ss = omega (arith, prefix-length b SHT ss)
+  tee-sized q Axis.I b (HT ∷ ss) = omega (arith, prefix-length b HT ss)
+  tee-sized q Axis.I b (SHT ∷ ss) = omega (arith, prefix-length b SHT ss)
+  tee-sized q Axis.I true [] = omega arith
+  tee-sized q Axis.I false [] = omega arith
 
-met : (f : Clifford → ℕ) (r : Clifford) → Met f r
-unfolding most
-met f r = record { none = omega arith; T-met = omega arith; HT-met = omega arith; SHT-met = omega arith }
-
-tee-sized : (f : Clifford → ℕ) (a : Axis) (r : Clifford) (b : Bool) (ss : List Syllable)
-    → sized f (tee a r b ss) ≤ length (prefix b ss) + teed f a r
-tee-sized f Axis.H r b ss = omega (arith, prefix-length b HT ss)
-tee-sized f Axis.SH r b ss = omega (arith, prefix-length b SHT ss)
-tee-sized f Axis.I r b (HT ∷ ss) = omega (arith, prefix-length b HT ss, met f r .HT-met)
-tee-sized f Axis.I r b (SHT ∷ ss) = omega (arith, prefix-length b SHT ss, met f r .SHT-met)
-tee-sized f Axis.I r true [] = omega (arith, met f r .T-met)
-tee-sized f Axis.I r false [] = omega (arith, met f r .none)
-
-read-sized : (f : Clifford → ℕ) (l : Letter) (st : State) → sized f (read l st) ≤ before st + after f (st .q) l
-read-sized f I st = omega arith
-read-sized f H st = omega arith
-read-sized f S st = omega arith
-read-sized f X st = omega arith
-read-sized f W st = omega arith
-read-sized f T′ st = tee-sized f (tconjC (st .q) .axis) (tconjC (st .q) .rest) (st .lead) (st .stack)
+  read-sized : (l : Letter) (st : State) → sized f (read l st) ≤ before st + after f (movesOf (st .q)) l
+  read-sized I st = omega arith
+  read-sized H st = omega arith
+  read-sized S st = omega arith
+  read-sized X st = omega arith
+  read-sized W st = omega arith
+  read-sized T′ st = tee-sized (st .q) (tconjC (st .q) .axis) (st .lead) (st .stack)
 
 -- ---- so the letters to come are worth no more than their table says
-run-sized : (reward : Clifford → ℕ) (u : List Letter) (st : State) → Ranged (st .q)
-    → sized reward (run st u) ≤ before st + value (again (length u) (tabled reward)) (st .q)
-run-sized reward [] st h =
-    omega (arith, ap (λ t. value t (st .q)) (again-none (tabled reward)), tabled-value (st .q) h reward)
-run-sized reward (l ∷ u) st h =
-    let f = value (again (length u) (tabled reward)) in
+run-sized : (f : Clifford → ℕ) (u : List Letter) (st : State) → Ranged (st .q)
+    → sized f (run st u) ≤ before st + worth (length u) (first f moves) (st .q)
+run-sized f [] st h = omega (arith, worth-none (st .q) h f)
+run-sized f (l ∷ u) st h =
+    let g = worth (length u) (first f moves) in
     omega (
       arith,
-      run-sized reward u (read l st) (read-ranged l st h),
-      read-sized f l st,
-      better-upper f (st .q) l,
-      ap (λ t. value t (st .q)) (again-last (length u) (tabled reward)),
-      tabled-value (st .q) h (better f),
+      run-sized f u (read l st) (read-ranged l st h),
+      read-sized g l st,
+      better-upper g (movesOf (st .q)) l,
+      worth-more (st .q) h (length u) (first f moves),
     )
 
 -- ---- the letters of a tail, with or without W
@@ -88,15 +76,15 @@ abbrev sixteen : Bool → ℕ
 sixteen true = 29
 sixteen false = 24
 
-whole-tested : T (periodTest (tabled (tailSize true)) 29)
-unfolding mulC invC tconjC most mostOf better value tabled again periodTest
+whole-tested : T (roundTest (tailSize true) (sixteen true))
+unfolding mulC invC tconjC most better value mapped moves again roundTest
 whole-tested = tt
 
-free-tested : T (periodTest (tabled (tailSize false)) 24)
-unfolding mulC invC tconjC most mostOf better value tabled again periodTest
+free-tested : T (roundTest (tailSize false) (sixteen false))
+unfolding mulC invC tconjC most better value mapped moves again roundTest
 free-tested = tt
 
-tested : (phase : Bool) → T (periodTest (tabled (tailSize phase)) (sixteen phase))
+tested : (phase : Bool) → T (roundTest (tailSize phase) (sixteen phase))
 tested true = whole-tested
 tested false = free-tested
 
@@ -110,7 +98,7 @@ text-few phase u j l =
       ap length (spelled st tail),
       length-append (prefix (st .lead) (st .stack)) (orI (tailWord tail)),
       run-sized (tailSize phase) u start start-ranged,
-      growth (tabled (tailSize phase)) (sixteen phase) (tested phase) (length u) j l,
+      growth (tailSize phase) (sixteen phase) (tested phase) (length u) j l,
     )
 
 -- ---- the words themselves: what each has as its normal word, and as its phase-free one
