@@ -13,7 +13,7 @@ use Rattle.exact.specs.Meaning.Refusals.{TooMany}
 use Rattle.exact.specs.Cases.Letters.{bytes-length, none-outside}
 use Rattle.exact.specs.Outcomes.Ladder.{answered}
 use Rattle.exact.specs.Outcomes.Lent.{handed-same}
-use Rattle.reading.specs.Longest.{normal-enough, phase-free-enough, normal-attained, phase-free-attained}
+use Rattle.lengths.specs.Longest.{normal-enough, phase-free-enough, normal-attained, phase-free-attained}
 use Rattle.normal_form.specs.declared.Written.{Written}
 use Rattle.normal_form.specs.Meaning.{Normalises, DropsPhase, refused, counts, wordRefusals, WordOutcome, NormaliseOutcome, PhaseFreeOutcome}
 use Rattle.normal_form.specs.Unique.{normalises-single, drops-single}

@@ -6,5 +6,3 @@ pub mod Steps
 pub mod Held
 pub mod Letters
 pub mod Reader
-pub mod Growth
-pub mod Longest

@@ -6,8 +6,8 @@ use mathlib.Core.List.{List, [], _∷_}
 use Prim.Native.Nat.{ℕ, zero, suc, _+_, _*_, _≤_}
 use native.Mathlib.Omega.{arith}
 use lib.Dec.{T, leb, leb→le, eqb, eqb→eq}
-use mir.Facts.{and-yes}
 use lib.ListN.{length, length-append}
+use mir.Facts.{and-yes}
 use Rattle.exact.specs.Meaning.Matrix.{Matrix}
 use Rattle.exact.specs.Meaning.Word.{Letter, I, H, S, X, W, T′, word}
 use Rattle.exact.specs.Meaning.Normal.{Syllable, HT, SHT, Tail, tailWord, orI, spell, noW, withoutW, NormalOf, PhaseFreeOf}
@@ -19,10 +19,10 @@ use Rattle.clifford.specs.declared.Axis.the-variants as Axis
 use Rattle.clifford.specs.declared.Clifford.{Clifford}
 use Rattle.clifford.specs.Meaning.{Ranged}
 use Rattle.clifford.specs.Cliffords.{mulC, invC, splitC, tconjC}
 use Rattle.reading.specs.Readings.{State, prefix, prefix-length, start, start-ranged, tee, read, read-ranged, run, tailAt, shapeTo, spelled}
 use Rattle.reading.specs.Readings.{shape, normal, normal-of, phase-free}
-use Rattle.reading.specs.Growth.{most, movesOf, teed, after, better, better-upper, value, mapped, moves, again, first, worth, worth-none}
-use Rattle.reading.specs.Growth.{worth-more, roundTest, growth}
+use Rattle.lengths.specs.Growth.{most, movesOf, teed, after, better, better-upper, value, mapped, moves, again, first, worth, worth-none}
+use Rattle.lengths.specs.Growth.{worth-more, roundTest, growth}
 
 -- ---- a reading's syllables, and what f gives for its Clifford
 abbrev before : State → ℕ
@@ -101,21 +101,24 @@ text-few phase u j l =
       growth (tailSize phase) (sixteen phase) (tested phase) (length u) j l,
     )
 
--- ---- the words themselves: what each has as its normal word, and as its phase-free one
+-- ---- a word's normal word, and its phase-free word
+abbrev whole : List Letter → List Letter
+whole u = spell (shape u)
+
 abbrev freed : List Letter → List Letter
 freed u = spell (withoutW (shape u))
 
-normal-is : (u : List Letter) → NormalOf (word u) (spell (shape u))
-normal-is u = record { normal = normal u; same = normal-of u }
+whole-is : (u : List Letter) → NormalOf (word u) (whole u)
+whole-is u = record { normal = normal u; same = normal-of u }
 
 freed-is : (u : List Letter) → PhaseFreeOf (word u) (freed u)
-freed-is u = record { whole = spell (shape u); phase-free = phase-free u (freed u) refl; same = normal-of u }
+freed-is u = record { whole = whole u; phase-free = phase-free u (freed u) refl; same = normal-of u }
 
 -- ---- the law, for every word with that matrix
 module _ (u v : List Letter) where
   pub longest-normal : (j : ℕ) → length u ≤ 16 + 24 * j → NormalOf (word u) v → length v ≤ 29 + 32 * j
   longest-normal j l a =
-      omega (arith, ap length (one-normal (word u) v (spell (shape u)) a (normal-is u)), text-few true u j l)
+      omega (arith, ap length (one-normal (word u) v (whole u) a (whole-is u)), text-few true u j l)
 
   pub longest-phase-free : (j : ℕ) → length u ≤ 16 + 24 * j → PhaseFreeOf (word u) v → length v ≤ 24 + 32 * j
   longest-phase-free j l a = omega (arith, ap length (phase-free-once a (freed-is u)), text-few false u j l)
@@ -146,16 +149,22 @@ abbrev pairs : ℕ → List Letter
 pairs zero = []
 pairs (suc n) = H ∷ T′ ∷ pairs n
 
-normal-test : T (leb (length (X ∷ H ∷ X ∷ T′ ∷ pairs 2046)) longest && eqb (length (spell (shape (X ∷ H ∷ X ∷ T′ ∷ pairs 2046)))) normalEnough)
-unfolding mulC invC tconjC
+unfoldable longNormal : List Letter
+longNormal = X ∷ H ∷ X ∷ T′ ∷ pairs 2046
+
+unfoldable longFreed : List Letter
+longFreed = X ∷ T′ ∷ pairs 2047
+
+normal-test : T (leb (length longNormal) longest && eqb (length (whole longNormal)) normalEnough)
+unfolding longNormal mulC invC tconjC
 normal-test = tt
 
-freed-test : T (leb (length (X ∷ T′ ∷ pairs 2047)) longest && eqb (length (freed (X ∷ T′ ∷ pairs 2047))) phaseFreeEnough)
-unfolding mulC invC tconjC
+freed-test : T (leb (length longFreed) longest && eqb (length (freed longFreed)) phaseFreeEnough)
+unfolding longFreed mulC invC tconjC
 freed-test = tt
 
 pub normal-attained : Attained NormalOf normalEnough
-normal-attained = attained NormalOf (λ u. spell (shape u)) normal-is normalEnough (X ∷ H ∷ X ∷ T′ ∷ pairs 2046) normal-test
+normal-attained = attained NormalOf whole whole-is normalEnough longNormal normal-test
 
 pub phase-free-attained : Attained PhaseFreeOf phaseFreeEnough
-phase-free-attained = attained PhaseFreeOf freed freed-is phaseFreeEnough (X ∷ T′ ∷ pairs 2047) freed-test
+phase-free-attained = attained PhaseFreeOf freed freed-is phaseFreeEnough longFreed freed-test
