@@ -17,6 +17,7 @@ use Rattle.clifford.specs.Tables.{quadruple, all, at, all3, at3}
 use Rattle.clifford.specs.Cliffords.{mulC, mul-ranged, tconjC, tconj-ranged, cliffordI, cliffordX, cliffordS, cliffordW, cliffordH, cliffordHS, cliffordSHS}
 use Rattle.reading.specs.Readings.{start-ranged}
 
+-- ---- the greater of two numbers
 raised : (a b a′ b′ c : ℕ) → a ≤ a′ + c → b ≤ b′ + c → max a b ≤ max a′ b′ + c
 raised a b a′ b′ c h k = omega arith
 
@@ -129,6 +130,7 @@ abbrev listed : {A : Type 0} → ℕ → (ℕ → A) → List A
 listed zero f = []
 listed (suc n) f = f 0 ∷ listed n (λ k. f (suc k))
 
+-- a product takes long to compute, so each Clifford's moves are computed once
 unfoldable pub moves : Table Moves
 moves = listed 3 (λ a. listed 2 (λ b. listed 4 (λ c. listed 8 (λ d. movesOf (quadruple a b c d)))))
 
@@ -137,7 +139,7 @@ listed-at zero f g d k h = absurd (omega arith)
 listed-at (suc n) f g d zero h = refl
 listed-at (suc n) f g d (suc k) h = listed-at n f (λ k. g (suc k)) d k (omega arith)
 
-pub mapped-value : (q : Clifford) → Ranged q → (f : Moves → ℕ) → value (mapped f moves) q ≡ f (movesOf q)
+mapped-value : (q : Clifford) → Ranged q → (f : Moves → ℕ) → value (mapped f moves) q ≡ f (movesOf q)
 unfolding value mapped moves
 mapped-value q h f =
     ap (λ t. getD (getD (getD t (q .b) []) (q .c) []) (q .d) 0)
@@ -148,7 +150,7 @@ mapped-value q h f =
     (listed-at 4 (map f) (λ c. listed 8 (λ d. movesOf (quadruple (q .a) (q .b) c d))) [] (q .c) (omega (arith, h .c-few)))
     ∙ listed-at 8 f (λ d. movesOf (quadruple (q .a) (q .b) (q .c) d)) 0 (q .d) (omega (arith, h .d-few))
 
--- ---- n letters more, by the table of moves
+-- ---- n letters more, by the table of moves; what a `let` binds is computed once
 unfoldable pub again : Table Moves → ℕ → Table ℕ → Table ℕ
 again m zero t = t
 again m (suc n) t = let u = mapped (better (value t)) m in again m n u
@@ -208,7 +210,7 @@ again-grows zero t q k = omega (arith, ap (λ x. value x q) (again-none t))
 again-grows (suc n) t q k =
     omega (arith, again-grows n t q k, worth-more q k n t, better-upper (worth n t) (movesOf q) I)
 
--- ---- a round of 24 letters, and what it adds at most
+-- ---- what a round of 24 letters adds at most
 abbrev gain : ℕ
 gain = 32
 

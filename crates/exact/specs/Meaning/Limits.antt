@@ -17,11 +17,11 @@ largest = 2 ^ 30
 abbrev pub enough : ℕ
 enough = 376
 
--- the bytes that are always enough for a normal word
+-- the bytes that are always enough for a normal word: 29 + 32·170
 abbrev pub normalEnough : ℕ
 normalEnough = 5469
 
--- the bytes that are always enough for a phase-free word
+-- the bytes that are always enough for a phase-free word: 24 + 32·170
 abbrev pub phaseFreeEnough : ℕ
 phaseFreeEnough = 5464
 
