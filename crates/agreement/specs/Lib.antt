@@ -9,3 +9,4 @@ pub mod Unique
 pub mod Identity
 pub mod Again
 pub mod Phase
+pub mod Enough

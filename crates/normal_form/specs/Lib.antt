@@ -11,3 +11,4 @@ pub mod Alike
 pub mod Identity
 pub mod Phase
 pub mod Freed
+pub mod Enough

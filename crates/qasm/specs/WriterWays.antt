@@ -8,7 +8,7 @@ use mir.Val.{Fits}
 use lib.Dec.{lit≤}
 use lib.ListN.{length, length-append}
 use Rattle.exact.specs.Meaning.Word.{Letter as Gate, W, byte, FirstOutside, First, Spelled}
-use Rattle.exact.specs.Meaning.Limits.{longest, Long, Letter, Phase, Room}
+use Rattle.exact.specs.Meaning.Limits.{longest, circuitEnough, Long, Letter, Phase, Room}
 use Rattle.exact.specs.Meaning.Outcome.{Rung}
 use Rattle.exact.specs.Meaning.Lent.{lent, untouched}
 use Rattle.exact.specs.Cases.Letters.{lettersOf, lettersOf-bytes, lettersOf-length, none-outside}
@@ -111,7 +111,7 @@ phase-refused w old r d n q s l f m e =
     (Rung.passed (inside w old r old s) (Rung.given n (record { there = m; is = f .there m; before = f .before }) (stays old e))))
 
 -- ---- room that is always enough: 50 bytes of header, and 14 for each letter
-pub circuit-enough : (e : Edition) (u : List Gate) → length u ≤ longest → length (text e (circuit u)) ≤ 57394
+pub circuit-enough : (e : Edition) (u : List Gate) → length u ≤ longest → length (text e (circuit u)) ≤ circuitEnough
 circuit-enough e u l = omega (arith, length-append (header e) (lines (circuit u)), size-most u, header-few e)
   where
     header-few : (e : Edition) → length (header e) ≤ 50

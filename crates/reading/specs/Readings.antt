@@ -163,7 +163,7 @@ run-same st (l ∷ u) h =
     ⨾ before (read-same l st h) u
     ⨾ run-same (read l st) u (read-ranged l st h)
 
-start-ranged : Ranged cliffordI
+pub start-ranged : Ranged cliffordI
 start-ranged = few 0 0 0 0 (omega arith) (omega arith) (omega arith) (omega arith)
 
 -- ---- the normal word

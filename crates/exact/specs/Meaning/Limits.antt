@@ -17,6 +17,18 @@ largest = 2 ^ 30
 abbrev pub enough : ℕ
 enough = 376
 
+-- the bytes that are always enough for a normal word: 29 + 32·170
+abbrev pub normalEnough : ℕ
+normalEnough = 5469
+
+-- the bytes that are always enough for a phase-free word: 24 + 32·170
+abbrev pub phaseFreeEnough : ℕ
+phaseFreeEnough = 5464
+
+-- the bytes that are always enough for a circuit: 50 + 14·4096
+abbrev pub circuitEnough : ℕ
+circuitEnough = 57394
+
 -- ---- refusals; 0 is accepted
 abbrev pub Accepted : ℕ
 Accepted = 0

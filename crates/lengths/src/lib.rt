@@ -1,0 +1,1 @@
+// How long normal words become, as mathematics: no function. specs/ has it.
