@@ -29,7 +29,7 @@ static void words(void)
 {
     const uint8_t *hsh = (const uint8_t *)"HSH", *shtt = (const uint8_t *)"SHTT", *tw = (const uint8_t *)"TW";
     const int64_t x[8] = {0, 0, 0, 0, 0, 0, 0, 1}, t[8] = {0, 0, 0, 1};
-    uint8_t buf[DUNROSSEL_ENOUGH];
+    uint8_t buf[DUNROSSEL_NORMAL]; /* enough for any word, and so for any matrix */
     uint64_t out[3];
     uint8_t refusal = dunrossel_normalise(hsh, 3, buf, sizeof buf, out);
     word("normalise HSH", refusal, buf, out, "SHXSSSW");

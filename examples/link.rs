@@ -38,8 +38,9 @@ fn parts(m: &Triple) -> (i64, u8, [i64; 8]) {
     (m[0], m[1] as u8, m[2..].try_into().unwrap())
 }
 
-/// Room enough for the word of any matrix.
+/// Room enough for the word of any matrix, and for the normal word of any word.
 const ENOUGH: usize = 376;
+const NORMAL: usize = 5469;
 
 fn answer<T>(number: u8, place: u64, value: T) -> Result<T, Refused> {
     if number == 0 {
@@ -151,9 +152,9 @@ fn there_and_back() {
 
 fn main() {
     for (word, normal) in [("", "I"), ("T", "TI"), ("HSH", "SHXSSSW"), ("SHTT", "SHS"), ("XT", "TXSWWWWWWW")] {
-        println!("normalise {word}: {:?}", normalise(word, ENOUGH));
-        assert_eq!(normalise(word, ENOUGH).as_deref(), Ok(normal));
-        assert_eq!(normalise(normal, ENOUGH).as_deref(), Ok(normal));
+        println!("normalise {word}: {:?}", normalise(word, NORMAL));
+        assert_eq!(normalise(word, NORMAL).as_deref(), Ok(normal));
+        assert_eq!(normalise(normal, NORMAL).as_deref(), Ok(normal));
         let m = matrix(word).unwrap();
         assert_eq!(reduce(&m), Ok(m));
         assert_eq!(synthesise(&m, ENOUGH).as_deref(), Ok(normal));
@@ -162,7 +163,7 @@ fn main() {
     assert_eq!((phase_free("T", 2), phase_free("TW", 2)), (Ok("TI".into()), Ok("TI".into())));
     assert_eq!((phase_free("W", 1), phase_free("TW", 1)), (Ok("I".into()), Err(Refused { number: 7, place: 0 })));
     assert_eq!(normalise("T", 1), Err(Refused { number: 7, place: 0 }));
-    assert_eq!(normalise(&"T".repeat(4097), ENOUGH), Err(Refused { number: 1, place: 0 }));
+    assert_eq!(normalise(&"T".repeat(4097), NORMAL), Err(Refused { number: 1, place: 0 }));
     assert_eq!(matrix("HTZ"), Err(Refused { number: 2, place: 2 }));
     assert_eq!(matrix(&"HT".repeat(122)), Err(Refused { number: 6, place: 4 }));
 

@@ -130,6 +130,22 @@ static void phase_free(void)
     just_fits(4096, word); /* HT over and over, and two W */
 }
 
+/* The longest answer of all words: with just the room that always does, and with a byte less. */
+static void longest(writer *job, const char *first, size_t room)
+{
+    uint64_t out[3] = {7, 7, 7};
+    size_t lead = strlen(first), tees = 0;
+    memcpy(many, first, lead);
+    for (size_t i = lead; i < DUNROSSEL_LETTERS; i++) many[i] = (i - lead) % 2 ? 'T' : 'H';
+    lend();
+    uint8_t refusal = job(many, DUNROSSEL_LETTERS, lent, room, out);
+    printf("%s and HT over and over, room %lu: refusal=%d bytes=%d\n", first, (unsigned long)room, refusal, (int)out[1]);
+    for (size_t i = 0; i < room; i++) tees += lent[i] == 'T';
+    check("the longest answer", refusal == 0 && out[0] == 0 && out[1] == room && out[2] == tees);
+    untouched_from(room);
+    refused(job, DUNROSSEL_LETTERS, room - 1, DUNROSSEL_ROOM, 0);
+}
+
 /* ---- job 2 */
 
 static void matrix(size_t len, uint8_t number, uint64_t expected)
@@ -456,6 +472,8 @@ int main(void)
     words("normalise", dunrossel_normalise, "SHXSSSW");
     words("phase_free", dunrossel_phase_free, "SHXSSS");
     phase_free();
+    longest(dunrossel_normalise, "XHXT", DUNROSSEL_NORMAL);
+    longest(dunrossel_phase_free, "XT", DUNROSSEL_PHASE_FREE);
     matrices();
     synthesis();
     triples();
