@@ -48,8 +48,8 @@ enum {
     DUNROSSEL_PHASE = 10       /* a W, and OpenQASM 2.0 has no global phase; place: the leftmost */
 };
 
-/* The longest word that is taken; and the room that a call never finds too small, so that it doesn't refuse 7. No smaller one
- * does for dunrossel_normalise, dunrossel_phase_free and the calls of circuits. */
+/* The longest word that is taken; and the room that a call never finds too small, so that it doesn't refuse 7: the least such
+ * for all but dunrossel_synthesise and dunrossel_qasm2_write. */
 enum {
     DUNROSSEL_LETTERS = 4096,    /* the longest word, and room for a circuit's letters: dunrossel_qasm_read */
     DUNROSSEL_ENOUGH = 376,      /* for dunrossel_synthesise */
