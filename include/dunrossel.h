@@ -12,11 +12,12 @@
  * A normal word is at most one T, then any number of HT and SHT, then a tail: nothing, H or SH, then X at most once, S at most
  * 3 times, W at most 7 times, in this order, and I where all of that is empty. Every matrix here has exactly one.
  *
- * A slice is a pointer and the number of bytes behind it. Nothing is read or written through the pointer of an empty slice.
+ * A slice is a pointer and the number of bytes behind it. Nothing is read or written through the pointer of an empty slice,
+ * which may be NULL.
  *
  * out and place ARE the result, beside the number that is returned: always written, whatever they held; all zeros where the
- * call is refused, but for a place. buf is lent memory of `room` bytes: a refusal leaves it as it was, and so does an answer
- * beyond the answer's length.
+ * call is refused, but for a place, which counts bytes from 0. buf is lent memory of `room` bytes: a refusal leaves it as it
+ * was, and so does an answer beyond the answer's length.
  *
  * Every value of the numbers and bytes is answered or refused. What no function can test is the caller's to keep: each
  * pointer leads to as many elements as its declaration or its length says, and no memory that is written (out, place, buf)
@@ -108,10 +109,10 @@ void dunrossel_clifford_coset(const int32_t x[4], int32_t out[5]);
 uint8_t dunrossel_view(int64_t k, uint8_t n, const int64_t zw[8], double out[8]);
 
 /* What the bench program writes for a record, into out; the result is its number of bytes, those beyond are as before.
- * A record is the lines k= n= z= w=, each ended by LF, decimal numbers within 64 signed bits (n: 0 to 255), z and w four
- * of them parted by commas, no spaces, nothing after. The text has the lines refusal= word= t= bytes=: the number of the
- * refusal, the normal word, its T letters, its length. A refusal (8, 3, 4, 5, in this order) stands in the text, with an
- * empty word, t=0 and bytes=0. */
+ * A record is the lines k= n= z= w=, each ended by LF, decimal numbers within 64 signed bits (n: 0 to 255), with no plus
+ * sign, no leading zeros and no -0, z and w four of them parted by commas, no spaces, nothing after. The text has the lines
+ * refusal= word= t= bytes=: the number of the refusal, the normal word, its T letters, its length. A refusal (8, 3, 4, 5, in
+ * this order) stands in the text, with an empty word, t=0 and bytes=0. */
 size_t dunrossel_bench(const uint8_t *record, size_t len, uint8_t out[512]);
 
 /* Circuits are OpenQASM on one qubit, to the byte, an LF after each line and nothing else:
