@@ -13,113 +13,55 @@ use Rattle.exact.specs.Meaning.Clifford.{cycle}
 use Rattle.clifford.specs.declared.Axis.{Axis}
 use Rattle.clifford.specs.declared.Axis.the-variants as Axis
 use Rattle.clifford.specs.declared.Clifford.{Clifford}
-use Rattle.clifford.specs.declared.Conj2.{Conj2}
 use Rattle.clifford.specs.declared.Coset.{Coset}
+use Rattle.clifford.specs.declared.Passing.the-variants as Passing
 use Rattle.clifford.specs.declared.Tconj.{Tconj}
 use Rattle.clifford.specs.Meaning.{letters, axisWord, reduced, Ranged, Product, Inverse, Split}
 use Rattle.clifford.specs.Arguments.{Reduced}
 use Rattle.clifford.specs.Remainder.{reduced-back}
 use Rattle.clifford.specs.Words.{_≈_, by-test, by-refl, by-eq, by-sym, _⨾_, join, under, before, other-side, lessened, cycles, exes, esses}
 use Rattle.clifford.specs.Words.{doubleyous, pass, pass-S}
-use Rattle.clifford.specs.Tables.{quadruple, conj2, conj3, cinv, tconj, Row2, Row3, RowInv, RowT, conj2-right, conj3-right, conj3-ranged}
-use Rattle.clifford.specs.Tables.{cinv-right, tconj-right}
+use Rattle.clifford.specs.Tables.{quadruple, cinv, tconj, RowInv, RowT, cinv-right, tconj-right}
+use Rattle.clifford.specs.Moves.{reduce, reduce-ranged, reduce-same, preceded, Preceded, preceded-ranged, preceded-right}
 
--- ---- the numbers brought into their ranges
-abbrev pub reduce : ℕ → ℕ → ℕ → ℕ → Clifford
-reduce a b c d = quadruple (a % 3) (b % 2) (c % 4) (d % 8)
+-- ---- product: the S letters of x, and then its X, before y
+abbrev after : Clifford → Clifford → Clifford
+after x y = preceded Passing.X (x .b) (preceded Passing.S (x .c) y)
 
-pub reduce-ranged : (a b c d : ℕ) → Ranged (reduce a b c d)
-reduce-ranged a b c d = record { a-few = omega arith; b-few = omega arith; c-few = omega arith; d-few = omega arith }
-
-pub reduce-same : (a b c d : ℕ) → letters (quadruple a b c d) ≈ letters (reduce a b c d)
-reduce-same a b c d = join (lessened cycles a) (join (lessened exes b) (join (lessened esses c) (lessened doubleyous d)))
-
--- ---- product
 unfoldable pub mulC : Clifford → Clifford → Clifford
-mulC x y =
-    let r = conj3 (y .a * 8 + x .b * 4 + x .c) in
-    let s = conj2 (r .c * 2 + y .b) in
-    reduce (x .a + r .a) (r .b + y .b) (s .c + y .c) (r .d + s .d + x .d + y .d)
-
--- X^b S^c E^a past one another, and then S past X, with every omega at the end
-arranged : (A B C A′ B′ C′ E X₁ S₁ S₂ : List Letter) (d d′ d₁ d₂ : ℕ)
-    → B ++ (C ++ A′) ≈ E ++ (X₁ ++ (S₁ ++ times d₁ W))
-    → S₁ ++ B′ ≈ B′ ++ (S₂ ++ times d₂ W)
-    → (A ++ (B ++ (C ++ times d W))) ++ (A′ ++ (B′ ++ (C′ ++ times d′ W)))
-    ≈ (A ++ E) ++ ((X₁ ++ B′) ++ ((S₂ ++ C′) ++ (times d′ W ++ (times d W ++ (times d₁ W ++ times d₂ W)))))
-arranged A B C A′ B′ C′ E X₁ S₁ S₂ d d′ d₁ d₂ three two =
-    by-eq {v = A ++ (B ++ (C ++ (D ++ R)))} (simp append-assoc)
-    ⨾ under A (under B (under C (pass d R)))
-    ⨾ by-eq {v = A ++ ((B ++ (C ++ A′)) ++ (B′ ++ (C′ ++ (D′ ++ D))))} (simp append-assoc)
-    ⨾ under A (before three (B′ ++ (C′ ++ (D′ ++ D))))
-    ⨾ by-eq {v = A ++ (E ++ (X₁ ++ (S₁ ++ (times d₁ W ++ (B′ ++ (C′ ++ (D′ ++ D)))))))} (simp append-assoc)
-    ⨾ under A (under E (under X₁ (under S₁ (pass d₁ (B′ ++ (C′ ++ (D′ ++ D)))))))
-    ⨾ by-eq {v = A ++ (E ++ (X₁ ++ ((S₁ ++ B′) ++ (C′ ++ (D′ ++ (D ++ times d₁ W))))))} (simp append-assoc)
-    ⨾ under A (under E (under X₁ (before two (C′ ++ (D′ ++ (D ++ times d₁ W))))))
-    ⨾ by-eq {v = A ++ (E ++ (X₁ ++ (B′ ++ (S₂ ++ (times d₂ W ++ (C′ ++ (D′ ++ (D ++ times d₁ W))))))))} (simp append-assoc)
-    ⨾ under A (under E (under X₁ (under B′ (under S₂ (pass d₂ (C′ ++ (D′ ++ (D ++ times d₁ W))))))))
-    ⨾ by-eq (simp append-assoc)
-  where
-    D : List Letter
-    D = times d W
-
-    D′ : List Letter
-    D′ = times d′ W
-
-    R : List Letter
-    R = A′ ++ (B′ ++ (C′ ++ times d′ W))
-
-pub mul-right : (x y : Clifford) → Ranged x → Ranged y → Product x y (mulC x y)
-unfolding mulC
-mul-right x y hx hy = record {
-  ranged = reduce-ranged (x .a + r .a) (r .b + y .b) (s .c + y .c) (r .d + s .d + x .d + y .d);
-  same = by-sym whole .same;
-}
-  where
-    r : Clifford
-    r = conj3 (y .a * 8 + x .b * 4 + x .c)
-
-    s : Conj2
-    s = conj2 (r .c * 2 + y .b)
-
-    hr : Ranged (conj3 (y .a * 8 + x .b * 4 + x .c))
-    hr = conj3-ranged (y .a * 8 + x .b * 4 + x .c) (omega (arith, hx .b-few, hx .c-few, hy .a-few))
-
-    gathered : (A E X₁ B′ S₂ C′ D′ D W₁ W₂ : ℕ)
-        → (cycle A ++ cycle E)
-        ++ ((times X₁ X ++ times B′ X) ++ ((times S₂ S ++ times C′ S) ++ (times D′ W ++ (times D W ++ (times W₁ W ++ times W₂ W)))))
-        ≡ letters (quadruple (A + E) (X₁ + B′) (S₂ + C′) (D′ + (D + (W₁ + W₂))))
-    gathered A E X₁ B′ S₂ C′ D′ D W₁ W₂ =
-        rw (
-          cycles .add A E,
-          exes .add X₁ B′,
-          esses .add S₂ C′,
-          doubleyous .add D′ (D + (W₁ + W₂)),
-          doubleyous .add D (W₁ + W₂),
-          doubleyous .add W₁ W₂,
-        )
-
-    ordered : r .d + s .d + x .d + y .d ≡ y .d + (x .d + (r .d + s .d))
-    ordered = omega arith
-
-    whole : letters x ++ letters y ≈ letters (mulC x y)
-    whole =
-        arranged (cycle (x .a)) (times (x .b) X) (times (x .c) S)
-        (cycle (y .a)) (times (y .b) X) (times (y .c) S)
-        (cycle (r .a)) (times (r .b) X) (times (r .c) S) (times (s .c) S)
-        (x .d) (y .d) (r .d) (s .d)
-        (conj3-right (y .a) (x .b) (x .c) (hy .a-few) (hx .b-few) (hx .c-few))
-        (conj2-right (r .c) (y .b) (hr .c-few) (hy .b-few))
-        ⨾ by-eq (gathered (x .a) (r .a) (r .b) (y .b) (s .c) (y .c) (y .d) (x .d) (r .d) (s .d))
-        ⨾ by-eq (ap (λ n. letters (quadruple (x .a + r .a) (r .b + y .b) (s .c + y .c) n)) (sym ordered))
-        ⨾ reduce-same (x .a + r .a) (r .b + y .b) (s .c + y .c) (r .d + s .d + x .d + y .d)
+mulC x y = let q = after x y in reduce (x .a + q .a) (q .b) (q .c) (q .d + x .d)
 
 pub mul-ranged : (x y : Clifford) → Ranged (mulC x y)
 unfolding mulC
-mul-ranged x y =
-    let r = conj3 (y .a * 8 + x .b * 4 + x .c) in
-    let s = conj2 (r .c * 2 + y .b) in
-    reduce-ranged (x .a + r .a) (r .b + y .b) (s .c + y .c) (r .d + s .d + x .d + y .d)
+mul-ranged x y = let q = after x y in reduce-ranged (x .a + q .a) (q .b) (q .c) (q .d + x .d)
+
+pub mul-right : (x y : Clifford) → Ranged x → Ranged y → Product x y (mulC x y)
+unfolding mulC
+mul-right x y hx hy = record { ranged = mul-ranged x y; same = by-sym whole .same }
+  where
+    q : Clifford
+    q = after x y
+
+    turned : (A B C D Y : List Letter) → (A ++ (B ++ (C ++ D))) ++ Y ≡ A ++ (B ++ (C ++ (D ++ Y)))
+    turned A B C D Y = simp append-assoc
+
+    gathered : (a a′ d d′ : ℕ) (B C : List Letter)
+        → cycle a ++ ((cycle a′ ++ (B ++ (C ++ times d W))) ++ times d′ W) ≡ cycle (a + a′) ++ (B ++ (C ++ times (d + d′) W))
+    gathered a a′ d d′ B C = rw (cycles .add a a′, doubleyous .add d d′) (simp append-assoc)
+
+    whole : letters x ++ letters y ≈ letters (mulC x y)
+    whole =
+        by-eq (turned (cycle (x .a)) (times (x .b) X) (times (x .c) S) (times (x .d) W) (letters y))
+        ⨾ under (cycle (x .a)) (under (times (x .b) X) (under (times (x .c) S) (pass (x .d) (letters y))))
+        ⨾ by-eq {v = cycle (x .a) ++ ((times (x .b) X ++ (times (x .c) S ++ letters y)) ++ times (x .d) W)} (simp append-assoc)
+        ⨾ under (cycle (x .a)) (before both (times (x .d) W))
+        ⨾ by-eq (gathered (x .a) (q .a) (q .d) (x .d) (times (q .b) X) (times (q .c) S))
+        ⨾ reduce-same (x .a + q .a) (q .b) (q .c) (q .d + x .d)
+      where
+        both : times (x .b) X ++ (times (x .c) S ++ letters y) ≈ letters q
+        both =
+            under (times (x .b) X) (preceded-right Passing.S (x .c) y hy)
+            ⨾ preceded-right Passing.X (x .b) (preceded Passing.S (x .c) y) (preceded-ranged Passing.S (x .c) y hy)
 
 -- ---- inverse
 unfoldable pub invC : Clifford → Clifford
@@ -290,10 +232,10 @@ tconj-same x hx =
 abbrev coset : Axis → Clifford → Coset
 coset w r = record { axis = w; rest = r }
 
-pub mul-by : (x y r q : Clifford) (s : Conj2) → Row3 (y .a * 8 + x .b * 4 + x .c) r → Row2 (r .c * 2 + y .b) s
-    → q ≡ reduce (x .a + r .a) (r .b + y .b) (s .c + y .c) (r .d + s .d + x .d + y .d) → q ≡ mulC x y
+pub mul-by : (x y p q r : Clifford) → Preceded Passing.S (x .c) y p → Preceded Passing.X (x .b) p q
+    → r ≡ reduce (x .a + q .a) (q .b) (q .c) (q .d + x .d) → r ≡ mulC x y
 unfolding mulC
-mul-by x y r q s three two e = e ∙ rw (two .is, three .is)
+mul-by x y p q r ss xs e = e ∙ rw (xs .is, ss .is)
 
 pub inv-by : (x r q : Clifford) → RowInv (x .a * 8 + x .b * 4 + x .c) r → q ≡ reduce (r .a) (r .b) (r .c) (r .d + (8 - x .d)) → q ≡ invC x
 unfolding invC

@@ -5,4 +5,5 @@ pub mod Arguments
 pub mod Remainder
 pub mod Words
 pub mod Tables
+pub mod Moves
 pub mod Cliffords

@@ -1,4 +1,4 @@
--- The four tables, each proved right for matrices by one computed test over its rows. Assumes nothing.
+-- The three tables, each proved right for matrices by one computed test over its rows. Assumes nothing.
 use mathlib.Core.Path.{_≡_, refl}
 use mathlib.Core.Bool.{Bool, true, _&&_}
 use mathlib.Core.List.{List, [], _∷_, _++_}
@@ -32,34 +32,6 @@ conj2-rows =
     record { c = 2; d = 4 } ∷
     record { c = 3; d = 0 } ∷
     record { c = 1; d = 6 } ∷
-    []
-
-abbrev pub conj3-rows : List Clifford
-conj3-rows =
-    quadruple 0 0 0 0 ∷
-    quadruple 0 0 1 0 ∷
-    quadruple 0 0 2 0 ∷
-    quadruple 0 0 3 0 ∷
-    quadruple 0 1 0 0 ∷
-    quadruple 0 1 1 0 ∷
-    quadruple 0 1 2 0 ∷
-    quadruple 0 1 3 0 ∷
-    quadruple 1 0 0 0 ∷
-    quadruple 2 0 3 6 ∷
-    quadruple 1 1 2 2 ∷
-    quadruple 2 1 3 6 ∷
-    quadruple 1 0 2 0 ∷
-    quadruple 2 1 1 0 ∷
-    quadruple 1 1 0 6 ∷
-    quadruple 2 0 1 4 ∷
-    quadruple 2 0 0 0 ∷
-    quadruple 1 1 3 4 ∷
-    quadruple 2 1 0 0 ∷
-    quadruple 1 0 1 2 ∷
-    quadruple 2 1 2 2 ∷
-    quadruple 1 1 1 0 ∷
-    quadruple 2 0 2 6 ∷
-    quadruple 1 0 3 2 ∷
     []
 
 abbrev pub inverse-row : ℕ → ℕ → ℕ → ℕ → Clifford
@@ -107,9 +79,6 @@ tconj-rows =
 abbrev pub conj2 : ℕ → Conj2
 conj2 i = getD conj2-rows i (record { c = 0; d = 0 })
 
-abbrev pub conj3 : ℕ → Clifford
-conj3 i = getD conj3-rows i (quadruple 0 0 0 0)
-
 abbrev pub cinv : ℕ → Clifford
 cinv i = getD cinv-rows i (quadruple 0 0 0 0)
 
@@ -133,10 +102,10 @@ all3 f = all 3 (λ a. all 2 (λ b. all 4 (λ c. f a b c)))
 pub at3 : (f : ℕ → ℕ → ℕ → Bool) → T (all3 f) → (a b c : ℕ) → a < 3 → b < 2 → c < 4 → T (f a b c)
 at3 f t a b c ha hb hc = at 4 (λ c. f a b c) (at 2 (λ b. all 4 (λ c. f a b c)) (at 3 (λ a. all 2 (λ b. all 4 (λ c. f a b c))) t a ha) b hb) c hc
 
-abbrev rangedTest : Clifford → Bool
+abbrev pub rangedTest : Clifford → Bool
 rangedTest q = ltb (q .a) 3 && (ltb (q .b) 2 && (ltb (q .c) 4 && ltb (q .d) 8))
 
-rangedTest-is : (q : Clifford) → T (rangedTest q) → Ranged q
+pub rangedTest-is : (q : Clifford) → T (rangedTest q) → Ranged q
 rangedTest-is q t =
     let u = and-yes (ltb (q .a) 3) (ltb (q .b) 2 && (ltb (q .c) 4 && ltb (q .d) 8)) t in
     let v = and-yes (ltb (q .b) 2) (ltb (q .c) 4 && ltb (q .d) 8) (u .1) in
@@ -168,28 +137,6 @@ pub conj2-row : (i : ℕ) → i < 8 → Row2 i (conj2 i)
 conj2-row i h =
     let t = and-yes (ltb (conj2 i .c) 4) (ltb (conj2 i .d) 8) (at 8 (λ i. ltb (conj2 i .c) 4 && ltb (conj2 i .d) 8) tt i h) in
     record { is = refl; c-few = ltb→lt (conj2 i .c) 4 (t .0); d-few = ltb→lt (conj2 i .d) 8 (t .1) }
-
--- ---- CONJ3_TABLE: X^b S^c E^a is E^a' X^b' S^c' omega^d'
-abbrev conj3-left : ℕ → ℕ → ℕ → List Letter
-conj3-left a b c = times b X ++ (times c S ++ cycle a)
-
-conj3-table : T (all3 (λ a b c. sameTest (word (conj3-left a b c)) (word (letters (conj3 (a * 8 + b * 4 + c))))))
-conj3-table = tt
-
-pub conj3-right : (a b c : ℕ) → a < 3 → b < 2 → c < 4 → times b X ++ (times c S ++ cycle a) ≈ letters (conj3 (a * 8 + b * 4 + c))
-conj3-right a b c ha hb hc =
-    by-test (conj3-left a b c) (letters (conj3 (a * 8 + b * 4 + c)))
-    (at3 (λ a b c. sameTest (word (conj3-left a b c)) (word (letters (conj3 (a * 8 + b * 4 + c))))) conj3-table a b c ha hb hc)
-
-pub conj3-ranged : (i : ℕ) → i < 24 → Ranged (conj3 i)
-conj3-ranged i h = rangedTest-is (conj3 i) (at 24 (λ i. rangedTest (conj3 i)) tt i h)
-
-pub record Row3 (i : ℕ) (r : Clifford) : Type 0 where
-  pub is : r ≡ conj3 i
-  pub ranged : Ranged r
-
-pub conj3-row : (i : ℕ) → i < 24 → Row3 i (conj3 i)
-conj3-row i h = record { is = refl; ranged = conj3-ranged i h }
 
 -- ---- CINV_TABLE: E^a X^b S^c times its row is the unit
 abbrev cinv-word : ℕ → ℕ → ℕ → List Letter

@@ -1,10 +1,11 @@
-// Job 6: Cliffords. (a,b,c,d) is E^a X^b S^c omega^d; product, inverse, coset split and the passing of a T, by the four tables.
+// Job 6: Cliffords. (a,b,c,d) is E^a X^b S^c omega^d; product, inverse, coset split and the passing of a T, by three tables and two moves.
 ghost use mathlib.Core.Path.{_≡_};
 ghost use Prim.Native.Nat.{_≤_, _<_};
 ghost use Rattle.clifford.specs.Meaning.{Ranged, reduced, modulo, Product, Inverse, Split};
 ghost use Rattle.clifford.specs.Arguments.{Reduced};
-ghost use Rattle.clifford.specs.Tables.{Row2, Row3, RowInv, RowT};
-ghost use Rattle.clifford.specs.Cliffords.{reduce, mulC, invC, splitC, tconjC};
+ghost use Rattle.clifford.specs.Tables.{Row2, RowInv, RowT};
+ghost use Rattle.clifford.specs.Moves.{reduce, Past, moved, Preceded};
+ghost use Rattle.clifford.specs.Cliffords.{mulC, invC, splitC, tconjC};
 
 pub enum Axis {
     I,
@@ -45,6 +46,12 @@ struct Conj2 {
     d: u8,
 }
 
+// A letter that is moved past E.
+enum Passing {
+    X,
+    S,
+}
+
 // E^a X^b T is axis T X^b S^c' omega^d', at 2a + b.
 struct Tconj {
     axis: Axis,
@@ -62,154 +69,6 @@ const CONJ2_TABLE: [Conj2; 8] = [
     Conj2 { c: 2, d: 4 },
     Conj2 { c: 3, d: 0 },
     Conj2 { c: 1, d: 6 },
-];
-
-// X^b S^c E^a as E^a' X^b' S^c' omega^d', at 8a + 4b + c.
-const CONJ3_TABLE: [Clifford; 24] = [
-    Clifford {
-        a: 0,
-        b: 0,
-        c: 0,
-        d: 0,
-    },
-    Clifford {
-        a: 0,
-        b: 0,
-        c: 1,
-        d: 0,
-    },
-    Clifford {
-        a: 0,
-        b: 0,
-        c: 2,
-        d: 0,
-    },
-    Clifford {
-        a: 0,
-        b: 0,
-        c: 3,
-        d: 0,
-    },
-    Clifford {
-        a: 0,
-        b: 1,
-        c: 0,
-        d: 0,
-    },
-    Clifford {
-        a: 0,
-        b: 1,
-        c: 1,
-        d: 0,
-    },
-    Clifford {
-        a: 0,
-        b: 1,
-        c: 2,
-        d: 0,
-    },
-    Clifford {
-        a: 0,
-        b: 1,
-        c: 3,
-        d: 0,
-    },
-    Clifford {
-        a: 1,
-        b: 0,
-        c: 0,
-        d: 0,
-    },
-    Clifford {
-        a: 2,
-        b: 0,
-        c: 3,
-        d: 6,
-    },
-    Clifford {
-        a: 1,
-        b: 1,
-        c: 2,
-        d: 2,
-    },
-    Clifford {
-        a: 2,
-        b: 1,
-        c: 3,
-        d: 6,
-    },
-    Clifford {
-        a: 1,
-        b: 0,
-        c: 2,
-        d: 0,
-    },
-    Clifford {
-        a: 2,
-        b: 1,
-        c: 1,
-        d: 0,
-    },
-    Clifford {
-        a: 1,
-        b: 1,
-        c: 0,
-        d: 6,
-    },
-    Clifford {
-        a: 2,
-        b: 0,
-        c: 1,
-        d: 4,
-    },
-    Clifford {
-        a: 2,
-        b: 0,
-        c: 0,
-        d: 0,
-    },
-    Clifford {
-        a: 1,
-        b: 1,
-        c: 3,
-        d: 4,
-    },
-    Clifford {
-        a: 2,
-        b: 1,
-        c: 0,
-        d: 0,
-    },
-    Clifford {
-        a: 1,
-        b: 0,
-        c: 1,
-        d: 2,
-    },
-    Clifford {
-        a: 2,
-        b: 1,
-        c: 2,
-        d: 2,
-    },
-    Clifford {
-        a: 1,
-        b: 1,
-        c: 1,
-        d: 0,
-    },
-    Clifford {
-        a: 2,
-        b: 0,
-        c: 2,
-        d: 6,
-    },
-    Clifford {
-        a: 1,
-        b: 0,
-        c: 3,
-        d: 2,
-    },
 ];
 
 // The inverse of E^a X^b S^c, at 8a + 4b + c. Row 12, counted from 0, is (2,1,1,2) in the Rust, which is no inverse.
@@ -401,11 +260,53 @@ fn conj2_row(i: u8) -> Conj2
     CONJ2_TABLE[i as usize]
 }
 
-fn conj3_row(i: u8) -> Clifford
-    requires { ⌜ i < 24 ⌝ }
-    ensures { λ r. ⌜ Row3 i r ⌝ }
+// X E^a and S E^a as E^a' X^b' S^c' omega^d'.
+fn past(l: Passing, a: u8) -> Clifford
+    requires { ⌜ a < 3 ⌝ }
+    ensures { λ r. ⌜ Past l a r ⌝ }
 {
-    CONJ3_TABLE[i as usize]
+    match l {
+        Passing::X => match a {
+            0 => Clifford {
+                a: 0,
+                b: 1,
+                c: 0,
+                d: 0,
+            },
+            1 => Clifford {
+                a: 1,
+                b: 0,
+                c: 2,
+                d: 0,
+            },
+            _ => Clifford {
+                a: 2,
+                b: 1,
+                c: 2,
+                d: 2,
+            },
+        },
+        Passing::S => match a {
+            0 => Clifford {
+                a: 0,
+                b: 0,
+                c: 1,
+                d: 0,
+            },
+            1 => Clifford {
+                a: 2,
+                b: 0,
+                c: 3,
+                d: 6,
+            },
+            _ => Clifford {
+                a: 1,
+                b: 1,
+                c: 3,
+                d: 4,
+            },
+        },
+    }
 }
 
 fn cinv_row(i: u8) -> Clifford
@@ -464,18 +365,37 @@ impl Clifford {
         }
     }
 
+    // A letter before this Clifford: it passes E, and what it becomes passes X.
+    fn moved(self, l: Passing) -> Clifford
+        requires { ⌜ Ranged self ⌝ }
+        ensures { λ r. ⌜ r ≡ moved l self ⌝ }
+    {
+        let e = past(l, self.a);
+        let two = conj2_row(e.c * 2 + self.b);
+        ranged(e.a, e.b + self.b, two.c + self.c, e.d + two.d + self.d)
+    }
+
+    // A letter n times before this Clifford.
+    fn preceded(self, l: Passing, n: u8) -> Clifford
+        requires { ⌜ Ranged self ⌝ }
+        ensures { λ r. ⌜ Preceded l n self r ⌝ }
+    {
+        let mut q = self;
+        let mut left = n;
+        while left > 0 {
+            q = q.moved(l);
+            left -= 1;
+        }
+        q
+    }
+
     fn product(self, rhs: Clifford) -> Clifford
         requires { ⌜ Ranged self ⌝ ∗ ⌜ Ranged rhs ⌝ }
         ensures { λ r. ⌜ r ≡ mulC self rhs ⌝ }
     {
-        let three = conj3_row(rhs.a * 8 + self.b * 4 + self.c);
-        let two = conj2_row(three.c * 2 + rhs.b);
-        ranged(
-            self.a + three.a,
-            three.b + rhs.b,
-            two.c + rhs.c,
-            three.d + two.d + self.d + rhs.d,
-        )
+        let q = rhs.preceded(Passing::S, self.c)
+            .preceded(Passing::X, self.b);
+        ranged(self.a + q.a, q.b, q.c, q.d + self.d)
     }
 
     fn inverse(self) -> Clifford
