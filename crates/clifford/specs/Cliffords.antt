@@ -14,7 +14,6 @@ use Rattle.clifford.specs.declared.Axis.{Axis}
 use Rattle.clifford.specs.declared.Axis.the-variants as Axis
 use Rattle.clifford.specs.declared.Clifford.{Clifford}
 use Rattle.clifford.specs.declared.Coset.{Coset}
-use Rattle.clifford.specs.declared.Passing.the-variants as Passing
 use Rattle.clifford.specs.declared.Tconj.{Tconj}
 use Rattle.clifford.specs.Meaning.{letters, axisWord, reduced, Ranged, Product, Inverse, Split}
 use Rattle.clifford.specs.Arguments.{Reduced}
@@ -22,11 +21,11 @@ use Rattle.clifford.specs.Remainder.{reduced-back}
 use Rattle.clifford.specs.Words.{_≈_, by-test, by-refl, by-eq, by-sym, _⨾_, join, under, before, other-side, lessened, cycles, exes, esses}
 use Rattle.clifford.specs.Words.{doubleyous, pass, pass-S}
 use Rattle.clifford.specs.Tables.{quadruple, cinv, tconj, RowInv, RowT, cinv-right, tconj-right}
-use Rattle.clifford.specs.Moves.{reduce, reduce-ranged, reduce-same, preceded, Preceded, preceded-ranged, preceded-right}
+use Rattle.clifford.specs.Moves.{reduce, reduce-ranged, reduce-same, fold, Preceded, preceded-right}
 
--- ---- product: the S letters of x, and then its X, before y
+-- ---- product: X^b S^c of x moved into y
 abbrev after : Clifford → Clifford → Clifford
-after x y = preceded Passing.X (x .b) (preceded Passing.S (x .c) y)
+after x y = fold (x .b) (x .b + x .c) y
 
 unfoldable pub mulC : Clifford → Clifford → Clifford
 mulC x y = let q = after x y in reduce (x .a + q .a) (q .b) (q .c) (q .d + x .d)
@@ -54,14 +53,9 @@ mul-right x y hx hy = record { ranged = mul-ranged x y; same = by-sym whole .sam
         by-eq (turned (cycle (x .a)) (times (x .b) X) (times (x .c) S) (times (x .d) W) (letters y))
         ⨾ under (cycle (x .a)) (under (times (x .b) X) (under (times (x .c) S) (pass (x .d) (letters y))))
         ⨾ by-eq {v = cycle (x .a) ++ ((times (x .b) X ++ (times (x .c) S ++ letters y)) ++ times (x .d) W)} (simp append-assoc)
-        ⨾ under (cycle (x .a)) (before both (times (x .d) W))
+        ⨾ under (cycle (x .a)) (before (preceded-right (x .b) (x .c) y hy) (times (x .d) W))
         ⨾ by-eq (gathered (x .a) (q .a) (q .d) (x .d) (times (q .b) X) (times (q .c) S))
         ⨾ reduce-same (x .a + q .a) (q .b) (q .c) (q .d + x .d)
-      where
-        both : times (x .b) X ++ (times (x .c) S ++ letters y) ≈ letters q
-        both =
-            under (times (x .b) X) (preceded-right Passing.S (x .c) y hy)
-            ⨾ preceded-right Passing.X (x .b) (preceded Passing.S (x .c) y) (preceded-ranged Passing.S (x .c) y hy)
 
 -- ---- inverse
 unfoldable pub invC : Clifford → Clifford
@@ -232,10 +226,9 @@ tconj-same x hx =
 abbrev coset : Axis → Clifford → Coset
 coset w r = record { axis = w; rest = r }
 
-pub mul-by : (x y p q r : Clifford) → Preceded Passing.S (x .c) y p → Preceded Passing.X (x .b) p q
-    → r ≡ reduce (x .a + q .a) (q .b) (q .c) (q .d + x .d) → r ≡ mulC x y
+pub mul-by : (x y q r : Clifford) → Preceded (x .b) (x .c) y q → r ≡ reduce (x .a + q .a) (q .b) (q .c) (q .d + x .d) → r ≡ mulC x y
 unfolding mulC
-mul-by x y p q r ss xs e = e ∙ rw (xs .is, ss .is)
+mul-by x y q r p e = e ∙ rw (p .is)
 
 pub inv-by : (x r q : Clifford) → RowInv (x .a * 8 + x .b * 4 + x .c) r → q ≡ reduce (r .a) (r .b) (r .c) (r .d + (8 - x .d)) → q ≡ invC x
 unfolding invC

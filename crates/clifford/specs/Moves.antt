@@ -1,19 +1,25 @@
 -- X and S before a Clifford, one letter at a time: it passes E and leaves a phase, and what it became passes X. Assumes nothing.
 use mathlib.Core.Path.{_≡_, refl, sym, _∙_, ap}
-use mathlib.Core.List.{List, [], _∷_, _++_, append-assoc}
+use mathlib.Core.Bool.{Bool, true, false, _&&_}
+use mathlib.Core.List.{List, [], _∷_, _++_, append-assoc, append-nil}
 use Prim.Native.Nat.{ℕ, zero, suc, _+_, _-_, _*_, _%_, _<_, _≤_}
-use native.Mathlib.Nat.{add-comm}
+use native.Mathlib.Nat.{add-comm, add-zero, add-suc}
 use native.Mathlib.Omega.{arith}
-use Rattle.exact.specs.Meaning.Word.{Letter, S, X, W}
+use lib.Dec.{T, ltb}
+use borrow.Author.Tests.{ltb-true, ltb-false}
+use lib.ListN.{getD}
+use mir.Facts.{and-yes}
+use Rattle.exact.specs.Meaning.Word.{Letter, S, X, W, word}
 use Rattle.exact.specs.Meaning.Normal.{times}
 use Rattle.exact.specs.Meaning.Clifford.{cycle}
+use Rattle.exact.specs.Matrices.Test.{sameTest}
 use Rattle.clifford.specs.declared.Clifford.{Clifford}
 use Rattle.clifford.specs.declared.Conj2.{Conj2}
 use Rattle.clifford.specs.declared.Passing.{Passing}
 use Rattle.clifford.specs.declared.Passing.the-variants as Passing
 use Rattle.clifford.specs.Meaning.{letters, Ranged}
 use Rattle.clifford.specs.Words.{_≈_, by-test, by-refl, by-eq, by-sym, _⨾_, join, under, before, lessened, cycles, exes, esses, doubleyous, pass}
-use Rattle.clifford.specs.Tables.{quadruple, rangedTest-is, conj2, Row2, conj2-right}
+use Rattle.clifford.specs.Tables.{quadruple, at, rangedTest, rangedTest-is, conj2, Row2, conj2-right}
 use Rattle.clifford.specs.Unique.{one-Clifford}
 
 -- ---- the two moves, by matrices: X E^a and S E^a are E^a' X^b' S^c' omega^d'
@@ -25,28 +31,34 @@ pub record Past (l : Passing) (a : ℕ) (r : Clifford) : Type 0 where
   pub ranged : Ranged r
   pub same : letter l ∷ cycle a ≈ letters r
 
+abbrev pub move-rows : List Clifford
+move-rows =
+    quadruple 0 1 0 0 ∷
+    quadruple 1 0 2 0 ∷
+    quadruple 2 1 2 2 ∷
+    quadruple 0 0 1 0 ∷
+    quadruple 2 0 3 6 ∷
+    quadruple 1 1 3 4 ∷
+    []
+
+abbrev pub moveAt : Passing → ℕ → ℕ
+moveAt Passing.X a = a
+moveAt Passing.S a = a + 3
+
 abbrev pub past : Passing → ℕ → Clifford
-past Passing.X zero = quadruple 0 1 0 0
-past Passing.X (suc zero) = quadruple 1 0 2 0
-past Passing.X (suc (suc a)) = quadruple 2 1 2 2
-past Passing.S zero = quadruple 0 0 1 0
-past Passing.S (suc zero) = quadruple 2 0 3 6
-past Passing.S (suc (suc a)) = quadruple 1 1 3 4
+past l a = getD move-rows (moveAt l a) (quadruple 0 0 0 0)
+
+abbrev moveTest : Passing → ℕ → Bool
+moveTest l a = rangedTest (past l a) && sameTest (word (letter l ∷ cycle a)) (word (letters (past l a)))
+
+move-right : (l : Passing) (a : ℕ) → T (moveTest l a) → Past l a (past l a)
+move-right l a t =
+    let u = and-yes (rangedTest (past l a)) (sameTest (word (letter l ∷ cycle a)) (word (letters (past l a)))) t in
+    record { ranged = rangedTest-is (past l a) (u .0); same = by-test (letter l ∷ cycle a) (letters (past l a)) (u .1) }
 
 pub past-right : (l : Passing) (a : ℕ) → a < 3 → Past l a (past l a)
-past-right Passing.X zero h = record { ranged = rangedTest-is (past Passing.X 0) tt; same = by-test (X ∷ cycle 0) (letters (past Passing.X 0)) tt }
-past-right Passing.X (suc zero) h = record { ranged = rangedTest-is (past Passing.X 1) tt; same = by-test (X ∷ cycle 1) (letters (past Passing.X 1)) tt }
-past-right Passing.X (suc (suc zero)) h = record {
-  ranged = rangedTest-is (past Passing.X 2) tt;
-  same = by-test (X ∷ cycle 2) (letters (past Passing.X 2)) tt;
-}
-past-right Passing.S zero h = record { ranged = rangedTest-is (past Passing.S 0) tt; same = by-test (S ∷ cycle 0) (letters (past Passing.S 0)) tt }
-past-right Passing.S (suc zero) h = record { ranged = rangedTest-is (past Passing.S 1) tt; same = by-test (S ∷ cycle 1) (letters (past Passing.S 1)) tt }
-past-right Passing.S (suc (suc zero)) h = record {
-  ranged = rangedTest-is (past Passing.S 2) tt;
-  same = by-test (S ∷ cycle 2) (letters (past Passing.S 2)) tt;
-}
-past-right l (suc (suc (suc a))) h = absurd (omega arith)
+past-right Passing.X a h = move-right Passing.X a (at 3 (moveTest Passing.X) tt a h)
+past-right Passing.S a h = move-right Passing.S a (at 3 (moveTest Passing.S) tt a h)
 
 -- ---- the numbers brought into their ranges
 abbrev pub reduce : ℕ → ℕ → ℕ → ℕ → Clifford
@@ -60,7 +72,7 @@ reduce-same a b c d = join (lessened cycles a) (join (lessened exes b) (join (le
 
 -- ---- one letter before a Clifford
 abbrev pub joined : Clifford → Conj2 → Clifford → Clifford
-joined e s q = reduce (e .a) (e .b + q .b) (s .c + q .c) (e .d + s .d + q .d)
+joined e s q = quadruple (e .a) ((e .b + q .b) % 2) ((s .c + q .c) % 4) ((e .d + s .d + q .d) % 8)
 
 abbrev pub moved : Passing → Clifford → Clifford
 moved l q = joined (past l (q .a)) (conj2 (past l (q .a) .c * 2 + q .b)) q
@@ -94,7 +106,7 @@ moved-right l q h =
     ⨾ behind (cycle (e .a)) (times (e .b) X) (times (e .c) S) (times (s .c) S) (times (q .b) X) (times (q .c) S) (e .d) (s .d) (q .d)
     (conj2-right (e .c) (q .b) (passed .ranged .c-few) (h .b-few))
     ⨾ by-eq (gathered (e .a) (e .b) (q .b) (s .c) (q .c) (q .d) (e .d) (s .d))
-    ⨾ reduce-same (e .a) (e .b + q .b) (s .c + q .c) (e .d + s .d + q .d)
+    ⨾ under (cycle (e .a)) (join (lessened exes (e .b + q .b)) (join (lessened esses (s .c + q .c)) (lessened doubleyous (e .d + s .d + q .d))))
   where
     e : Clifford
     e = past l (q .a)
@@ -105,63 +117,111 @@ moved-right l q h =
     passed : Past l (q .a) (past l (q .a))
     passed = past-right l (q .a) (h .a-few)
 
-pub moved-ranged : (l : Passing) (q : Clifford) → Ranged (moved l q)
-moved-ranged l q =
-    let e = past l (q .a) in
-    let s = conj2 (e .c * 2 + q .b) in
-    reduce-ranged (e .a) (e .b + q .b) (s .c + q .c) (e .d + s .d + q .d)
+pub moved-ranged : (l : Passing) (q : Clifford) → Ranged q → Ranged (moved l q)
+moved-ranged l q h = record { a-few = past-right l (q .a) (h .a-few) .ranged .a-few; b-few = omega arith; c-few = omega arith; d-few = omega arith }
 
--- ---- a letter n times before a Clifford: the moves, one after another
-abbrev pub preceded : Passing → ℕ → Clifford → Clifford
-preceded l zero q = q
-preceded l (suc n) q = preceded l n (moved l q)
+-- ---- X^b S^c before a Clifford: the moves, one after another, the last letter first
+abbrev pub chosen : Bool → Passing
+chosen true = Passing.X
+chosen false = Passing.S
 
-pub record Preceded (l : Passing) (n : ℕ) (q r : Clifford) : Type 0 where
-  pub is : r ≡ preceded l n q
+-- the letter at a place, and the first n letters
+abbrev pub letterAt : ℕ → ℕ → Passing
+letterAt b n = chosen (ltb n b)
+
+abbrev front : ℕ → ℕ → List Letter
+front b zero = []
+front b (suc n) = front b n ++ (letter (letterAt b n) ∷ [])
+
+abbrev pub fold : ℕ → ℕ → Clifford → Clifford
+fold b zero q = q
+fold b (suc n) q = fold b n (moved (letterAt b n) q)
+
+pub fold-ranged : (b n : ℕ) (q : Clifford) → Ranged q → Ranged (fold b n q)
+fold-ranged b zero q h = h
+fold-ranged b (suc n) q h = fold-ranged b n (moved (letterAt b n) q) (moved-ranged (letterAt b n) q h)
+
+fold-right : (b n : ℕ) (q : Clifford) → Ranged q → front b n ++ letters q ≈ letters (fold b n q)
+fold-right b zero q h = by-refl (letters q)
+fold-right b (suc n) q h =
+    by-eq (append-assoc (front b n) (letter (letterAt b n) ∷ []) (letters q))
+    ⨾ under (front b n) (moved-right (letterAt b n) q h)
+    ⨾ fold-right b n (moved (letterAt b n) q) (moved-ranged (letterAt b n) q h)
+
+-- they are X^b S^c
+pub is-X : (b n : ℕ) → n < b → Passing.X ≡ letterAt b n
+is-X b n h = go (ltb n b) refl
+  where
+    go : (t : Bool) → ltb n b ≡ t → Passing.X ≡ chosen t
+    go true e = refl
+    go false e = absurd (omega (arith, ltb-false n b e))
+
+pub is-S : (b n : ℕ) → b ≤ n → Passing.S ≡ letterAt b n
+is-S b n h = go (ltb n b) refl
+  where
+    go : (t : Bool) → ltb n b ≡ t → Passing.S ≡ chosen t
+    go true e = absurd (omega (arith, ltb-true n b e))
+    go false e = refl
+
+one-more : (l : Letter) (n : ℕ) → times n l ++ (l ∷ []) ≡ l ∷ times n l
+one-more l zero = refl
+one-more l (suc n) = ap (λ u. l ∷ u) (one-more l n)
+
+front-X : (b n : ℕ) → n ≤ b → front b n ≡ times n X
+front-X b zero h = refl
+front-X b (suc n) h = rw (front-X b n (omega arith), ← is-X b n (omega arith)) (one-more X n)
+
+front-is : (b c : ℕ) → front b (b + c) ≡ times b X ++ times c S
+front-is b zero = ap (front b) (add-zero b) ∙ front-X b b (omega arith) ∙ sym (append-nil (times b X))
+front-is b (suc c) =
+    ap (front b) (add-suc b c)
+    ∙ rw (front-is b c, ← is-S b (b + c) (omega arith)) (append-assoc (times b X) (times c S) (S ∷ []))
+    ∙ ap (λ u. times b X ++ u) (one-more S c)
+
+pub record Preceded (b c : ℕ) (q r : Clifford) : Type 0 where
+  pub is : r ≡ fold b (b + c) q
   pub ranged : Ranged r
 
-pub preceded-ranged : (l : Passing) (n : ℕ) (q : Clifford) → Ranged q → Ranged (preceded l n q)
-preceded-ranged l zero q h = h
-preceded-ranged l (suc n) q h = preceded-ranged l n (moved l q) (moved-ranged l q)
-
-last-first : (l : Letter) (n : ℕ) (u : List Letter) → times (suc n) l ++ u ≡ times n l ++ (l ∷ u)
-last-first l zero u = refl
-last-first l (suc n) u = ap (λ v. l ∷ v) (last-first l n u)
-
-pub preceded-right : (l : Passing) (n : ℕ) (q : Clifford) → Ranged q → times n (letter l) ++ letters q ≈ letters (preceded l n q)
-preceded-right l zero q h = by-refl (letters q)
-preceded-right l (suc n) q h =
-    by-eq (last-first (letter l) n (letters q))
-    ⨾ under (times n (letter l)) (moved-right l q h)
-    ⨾ preceded-right l n (moved l q) (moved-ranged l q)
+pub preceded-right : (b c : ℕ) (q : Clifford) → Ranged q → times b X ++ (times c S ++ letters q) ≈ letters (fold b (b + c) q)
+preceded-right b c q h =
+    by-eq (sym (append-assoc (times b X) (times c S) (letters q)) ∙ ap (λ u. u ++ letters q) (sym (front-is b c)))
+    ⨾ fold-right b (b + c) q h
 
 -- ---- what the program does
+pub at-S : (l : Passing) (a : ℕ) → l ≡ Passing.S → a + 3 ≡ moveAt l a
+at-S l a e = rw e
+
+pub move-few : (l : Passing) (a i : ℕ) → a < 3 → i ≡ moveAt l a → i < 6
+move-few Passing.X a i h e = omega arith
+move-few Passing.S a i h e = omega arith
+
+pub past-by : (l : Passing) (a i : ℕ) → a < 3 → i ≡ moveAt l a → Past l a (getD move-rows i (quadruple 0 0 0 0))
+past-by l a i h e = rw e (past-right l a h)
+
 pub past-is : (l : Passing) (a : ℕ) (r : Clifford) → a < 3 → Past l a r → r ≡ past l a
 past-is l a r h p =
     let q = past-right l a h in
     one-Clifford r (past l a) (p .ranged) (q .ranged) ((by-sym (p .same) ⨾ q .same) .same)
 
-pub moved-by : (l : Passing) (q e r : Clifford) (s : Conj2)
-    → Ranged q
-    → Past l (q .a) e
-    → Row2 (e .c * 2 + q .b) s
-    → r ≡ joined e s q
-    → r ≡ moved l q
-moved-by l q e r s h p two f = f ∙ rw (two .is, past-is l (q .a) e (h .a-few) p)
+pub moved-by : (l : Passing) (q e : Clifford) (s : Conj2) → Ranged q → Past l (q .a) e → Row2 (e .c * 2 + q .b) s → joined e s q ≡ moved l q
+moved-by l q e s h p two = rw (two .is, past-is l (q .a) e (h .a-few) p)
 
--- an arm of the table of moves
-pub arm : (l m : Passing) (a n : ℕ) → a < 3 → l ≡ m → a ≡ n → Past l a (past m n)
-arm l m a n h e f = rw (e, f) (past-right m n (omega (arith, h, f)))
-
--- what is left of the n letters, before q, is all of them before q₀
-pub record Going (l : Passing) (n : ℕ) (q₀ q : Clifford) (left : ℕ) : Type 0 where
-  pub still : preceded l left q ≡ preceded l n q₀
+-- what is left of the letters, before q, is all of them before q₀
+pub record Going (b n : ℕ) (q₀ q : Clifford) (left : ℕ) : Type 0 where
+  pub still : fold b left q ≡ fold b n q₀
   pub ranged : Ranged q
 
-pub going-on : (l : Passing) (n left : ℕ) (q₀ q r : Clifford) → 0 < left → Going l n q₀ q left → r ≡ moved l q → Going l n q₀ r (left - 1)
-going-on l n zero q₀ q r h g e = absurd (omega arith)
-going-on l n (suc left) q₀ q r h g e = let less : suc left - 1 ≡ left = omega arith in rw (e, less) (record { still = g .still; ranged = moved-ranged l q })
+pub going-on : (l : Passing) (b n left : ℕ) (q₀ q r : Clifford)
+    → 0 < left
+    → Going b n q₀ q left
+    → l ≡ letterAt b (left - 1)
+    → r ≡ moved l q
+    → Going b n q₀ r (left - 1)
+going-on l b n zero q₀ q r h g e f = absurd (omega arith)
+going-on l b n (suc left) q₀ q r h g e f =
+    let less : suc left - 1 ≡ left = omega arith in
+    rw (f, e, less) (record { still = g .still; ranged = moved-ranged (letterAt b left) q (g .ranged) })
 
-pub gone : (l : Passing) (n left : ℕ) (q₀ q : Clifford) → left ≤ 0 → Going l n q₀ q left → Preceded l n q₀ q
-gone l n zero q₀ q h g = record { is = g .still; ranged = g .ranged }
-gone l n (suc left) q₀ q h g = absurd (omega arith)
+pub gone : (b c left : ℕ) (q₀ q : Clifford) → left ≤ 0 → Going b (b + c) q₀ q left → Preceded b c q₀ q
+gone b c zero q₀ q h g = record { is = g .still; ranged = g .ranged }
+gone b c (suc left) q₀ q h g = absurd (omega arith)

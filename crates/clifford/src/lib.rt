@@ -4,7 +4,7 @@ ghost use Prim.Native.Nat.{_≤_, _<_};
 ghost use Rattle.clifford.specs.Meaning.{Ranged, reduced, modulo, Product, Inverse, Split};
 ghost use Rattle.clifford.specs.Arguments.{Reduced};
 ghost use Rattle.clifford.specs.Tables.{Row2, RowInv, RowT};
-ghost use Rattle.clifford.specs.Moves.{reduce, Past, moved, Preceded};
+ghost use Rattle.clifford.specs.Moves.{moveAt, Past, letterAt, reduce, moved, Preceded};
 ghost use Rattle.clifford.specs.Cliffords.{mulC, invC, splitC, tconjC};
 
 pub enum Axis {
@@ -69,6 +69,46 @@ const CONJ2_TABLE: [Conj2; 8] = [
     Conj2 { c: 2, d: 4 },
     Conj2 { c: 3, d: 0 },
     Conj2 { c: 1, d: 6 },
+];
+
+// X E^a at a, and S E^a at 3 + a, as E^a' X^b' S^c' omega^d'.
+const MOVES: [Clifford; 6] = [
+    Clifford {
+        a: 0,
+        b: 1,
+        c: 0,
+        d: 0,
+    },
+    Clifford {
+        a: 1,
+        b: 0,
+        c: 2,
+        d: 0,
+    },
+    Clifford {
+        a: 2,
+        b: 1,
+        c: 2,
+        d: 2,
+    },
+    Clifford {
+        a: 0,
+        b: 0,
+        c: 1,
+        d: 0,
+    },
+    Clifford {
+        a: 2,
+        b: 0,
+        c: 3,
+        d: 6,
+    },
+    Clifford {
+        a: 1,
+        b: 1,
+        c: 3,
+        d: 4,
+    },
 ];
 
 // The inverse of E^a X^b S^c, at 8a + 4b + c. Row 12, counted from 0, is (2,1,1,2) in the Rust, which is no inverse.
@@ -260,53 +300,31 @@ fn conj2_row(i: u8) -> Conj2
     CONJ2_TABLE[i as usize]
 }
 
-// X E^a and S E^a as E^a' X^b' S^c' omega^d'.
+// Where MOVES has a letter before E^a.
+fn move_at(l: Passing, a: u8) -> u8
+    requires { ⌜ a < 3 ⌝ }
+    ensures { λ r. ⌜ r ≡ moveAt l a ⌝ }
+{
+    match l {
+        Passing::X => a,
+        Passing::S => a + 3,
+    }
+}
+
+// X or S before E^a, moved past it.
 fn past(l: Passing, a: u8) -> Clifford
     requires { ⌜ a < 3 ⌝ }
     ensures { λ r. ⌜ Past l a r ⌝ }
 {
-    match l {
-        Passing::X => match a {
-            0 => Clifford {
-                a: 0,
-                b: 1,
-                c: 0,
-                d: 0,
-            },
-            1 => Clifford {
-                a: 1,
-                b: 0,
-                c: 2,
-                d: 0,
-            },
-            _ => Clifford {
-                a: 2,
-                b: 1,
-                c: 2,
-                d: 2,
-            },
-        },
-        Passing::S => match a {
-            0 => Clifford {
-                a: 0,
-                b: 0,
-                c: 1,
-                d: 0,
-            },
-            1 => Clifford {
-                a: 2,
-                b: 0,
-                c: 3,
-                d: 6,
-            },
-            _ => Clifford {
-                a: 1,
-                b: 1,
-                c: 3,
-                d: 4,
-            },
-        },
-    }
+    let i = move_at(l, a);
+    MOVES[i as usize]
+}
+
+// The letter of X^b S^c at a place.
+fn letter_at(b: u8, n: u8) -> Passing
+    ensures { λ r. ⌜ r ≡ letterAt b n ⌝ }
+{
+    if n < b { Passing::X } else { Passing::S }
 }
 
 fn cinv_row(i: u8) -> Clifford
@@ -372,19 +390,24 @@ impl Clifford {
     {
         let e = past(l, self.a);
         let two = conj2_row(e.c * 2 + self.b);
-        ranged(e.a, e.b + self.b, two.c + self.c, e.d + two.d + self.d)
+        Clifford {
+            a: e.a,
+            b: (e.b + self.b) % 2,
+            c: (two.c + self.c) % 4,
+            d: (e.d + two.d + self.d) % 8,
+        }
     }
 
-    // A letter n times before this Clifford.
-    fn preceded(self, l: Passing, n: u8) -> Clifford
-        requires { ⌜ Ranged self ⌝ }
-        ensures { λ r. ⌜ Preceded l n self r ⌝ }
+    // X^b S^c before this Clifford, a letter at a time, the last one first.
+    fn preceded(self, b: u8, c: u8) -> Clifford
+        requires { ⌜ Ranged self ⌝ ∗ ⌜ b < 2 ⌝ ∗ ⌜ c < 4 ⌝ }
+        ensures { λ r. ⌜ Preceded b c self r ⌝ }
     {
         let mut q = self;
-        let mut left = n;
+        let mut left = b + c;
         while left > 0 {
-            q = q.moved(l);
             left -= 1;
+            q = q.moved(letter_at(b, left));
         }
         q
     }
@@ -393,8 +416,7 @@ impl Clifford {
         requires { ⌜ Ranged self ⌝ ∗ ⌜ Ranged rhs ⌝ }
         ensures { λ r. ⌜ r ≡ mulC self rhs ⌝ }
     {
-        let q = rhs.preceded(Passing::S, self.c)
-            .preceded(Passing::X, self.b);
+        let q = rhs.preceded(self.b, self.c);
         ranged(self.a + q.a, q.b, q.c, q.d + self.d)
     }
 

@@ -16,23 +16,20 @@ add-conj2-row c = search needs
 conj2-row-requires : tie.Need-conj2-row-requires
 conj2-row-requires c κs = search needs
 
-add-ranged : tie.Need-add-ranged
-add-ranged c = search needs
+add-t5 : tie.Need-add-t5
+add-t5 c = search needs
 
-add-ranged-2 : tie.Need-add-ranged-2
-add-ranged-2 c = search needs
+add-t7 : tie.Need-add-t7
+add-t7 c = search needs
 
-add-ranged-3 : tie.Need-add-ranged-3
-add-ranged-3 c = search needs
+add-t9 : tie.Need-add-t9
+add-t9 c = search needs
 
-add-ranged-4 : tie.Need-add-ranged-4
-add-ranged-4 c = search needs
-
-ranged-requires : tie.Need-ranged-requires
-ranged-requires c κs = search needs
+add-t10 : tie.Need-add-t10
+add-t10 c = search needs
 
 returns : tie.Need-returns
-returns c = search moved-by
+returns c = search (needs, moved-by)
 
 pub moved-spec : {M : Type 1} → statement M
 moved-spec =
@@ -42,9 +39,8 @@ moved-spec =
     mul-conj2-row
     add-conj2-row
     conj2-row-requires
-    add-ranged
-    add-ranged-2
-    add-ranged-3
-    add-ranged-4
-    ranged-requires
+    add-t5
+    add-t7
+    add-t9
+    add-t10
     returns)

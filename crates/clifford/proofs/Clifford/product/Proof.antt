@@ -7,9 +7,6 @@ use Rattle.clifford.proofs.Clifford.product.Tie as tie
 preceded-requires : tie.Need-preceded-requires
 preceded-requires c κs = search needs
 
-preceded-requires-2 : tie.Need-preceded-requires-2
-preceded-requires-2 c κs = search needs
-
 add-ranged : tie.Need-add-ranged
 add-ranged c = search needs
 
@@ -24,11 +21,4 @@ returns c = search mul-by
 
 pub product-spec : {M : Type 1} → statement M
 product-spec =
-    tie.close
-    (tie.spec
-    preceded-requires
-    preceded-requires-2
-    add-ranged
-    add-ranged-2
-    ranged-requires
-    returns)
+    tie.close (tie.spec preceded-requires add-ranged add-ranged-2 ranged-requires returns)
