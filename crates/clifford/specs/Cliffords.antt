@@ -1,4 +1,4 @@
--- Products, inverses, splits and the passing of a T, as the tables give them, are right for matrices. Assumes nothing.
+-- Products, inverses, splits and the passing of a T, as the moves and the tables give them, are right for matrices. Assumes nothing.
 use mathlib.Core.Path.{_≡_, refl, sym, _∙_, ap}
 use mathlib.Core.List.{List, [], _∷_, _++_, append-assoc, append-nil}
 use Prim.Native.Nat.{ℕ, zero, suc, _+_, _-_, _*_, _%_, _<_, _≤_}
@@ -21,7 +21,24 @@ use Rattle.clifford.specs.Remainder.{reduced-back}
 use Rattle.clifford.specs.Words.{_≈_, by-test, by-refl, by-eq, by-sym, _⨾_, join, under, before, other-side, lessened, cycles, exes, esses}
 use Rattle.clifford.specs.Words.{doubleyous, pass, pass-S}
 use Rattle.clifford.specs.Tables.{quadruple, cinv, tconj, RowInv, RowT, cinv-right, tconj-right}
-use Rattle.clifford.specs.Moves.{reduce, reduce-ranged, reduce-same, fold, Preceded, preceded-right}
+use Rattle.clifford.specs.Moves.{fold, Preceded, preceded-right}
+
+-- ---- the numbers brought into their ranges
+abbrev pub reduce : ℕ → ℕ → ℕ → ℕ → Clifford
+reduce a b c d = quadruple (a % 3) (b % 2) (c % 4) (d % 8)
+
+pub reduce-ranged : (a b c d : ℕ) → Ranged (reduce a b c d)
+reduce-ranged a b c d = record { a-few = omega arith; b-few = omega arith; c-few = omega arith; d-few = omega arith }
+
+pub reduce-same : (a b c d : ℕ) → letters (quadruple a b c d) ≈ letters (reduce a b c d)
+reduce-same a b c d = join (lessened cycles a) (join (lessened exes b) (join (lessened esses c) (lessened doubleyous d)))
+
+-- what follows a Clifford passes its omegas
+turned : (A B C R : List Letter) (d : ℕ) → (A ++ (B ++ (C ++ times d W))) ++ R ≈ (A ++ (B ++ (C ++ R))) ++ times d W
+turned A B C R d =
+    by-eq {v = A ++ (B ++ (C ++ (times d W ++ R)))} (simp append-assoc)
+    ⨾ under A (under B (under C (pass d R)))
+    ⨾ by-eq (simp append-assoc)
 
 -- ---- product: X^b S^c of x moved into y
 abbrev after : Clifford → Clifford → Clifford
@@ -41,17 +58,13 @@ mul-right x y hx hy = record { ranged = mul-ranged x y; same = by-sym whole .sam
     q : Clifford
     q = after x y
 
-    turned : (A B C D Y : List Letter) → (A ++ (B ++ (C ++ D))) ++ Y ≡ A ++ (B ++ (C ++ (D ++ Y)))
-    turned A B C D Y = simp append-assoc
-
     gathered : (a a′ d d′ : ℕ) (B C : List Letter)
         → cycle a ++ ((cycle a′ ++ (B ++ (C ++ times d W))) ++ times d′ W) ≡ cycle (a + a′) ++ (B ++ (C ++ times (d + d′) W))
     gathered a a′ d d′ B C = rw (cycles .add a a′, doubleyous .add d d′) (simp append-assoc)
 
     whole : letters x ++ letters y ≈ letters (mulC x y)
     whole =
-        by-eq (turned (cycle (x .a)) (times (x .b) X) (times (x .c) S) (times (x .d) W) (letters y))
-        ⨾ under (cycle (x .a)) (under (times (x .b) X) (under (times (x .c) S) (pass (x .d) (letters y))))
+        turned (cycle (x .a)) (times (x .b) X) (times (x .c) S) (letters y) (x .d)
         ⨾ by-eq {v = cycle (x .a) ++ ((times (x .b) X ++ (times (x .c) S ++ letters y)) ++ times (x .d) W)} (simp append-assoc)
         ⨾ under (cycle (x .a)) (before (preceded-right (x .b) (x .c) y hy) (times (x .d) W))
         ⨾ by-eq (gathered (x .a) (q .a) (q .d) (x .d) (times (q .b) X) (times (q .c) S))
@@ -71,12 +84,6 @@ inv-right x hx = record { ranged = inv-ranged x; after = undone .same; before = 
   where
     r : Clifford
     r = cinv (x .a * 8 + x .b * 4 + x .c)
-
-    turned : (A B C R : List Letter) (d : ℕ) → (A ++ (B ++ (C ++ times d W))) ++ R ≈ (A ++ (B ++ (C ++ R))) ++ times d W
-    turned A B C R d =
-        by-eq {v = A ++ (B ++ (C ++ (times d W ++ R)))} (simp append-assoc)
-        ⨾ under A (under B (under C (pass d R)))
-        ⨾ by-eq (simp append-assoc)
 
     -- eight omegas more are none
     filled : (A B C : List Letter) (n d : ℕ) → d ≤ 8 → (A ++ (B ++ (C ++ times (n + (8 - d)) W))) ++ times d W ≈ A ++ (B ++ (C ++ times n W))

@@ -1,4 +1,4 @@
--- X and S before a Clifford, one letter at a time: it passes E and leaves a phase, and what it became passes X. Assumes nothing.
+-- X and S before a Clifford, moved into it one letter at a time: past E, which leaves a phase, and then past X. Assumes nothing.
 use mathlib.Core.Path.{_≡_, refl, sym, _∙_, ap}
 use mathlib.Core.Bool.{Bool, true, false, _&&_}
 use mathlib.Core.List.{List, [], _∷_, _++_, append-assoc, append-nil}
@@ -18,7 +18,7 @@ use Rattle.clifford.specs.declared.Conj2.{Conj2}
 use Rattle.clifford.specs.declared.Passing.{Passing}
 use Rattle.clifford.specs.declared.Passing.the-variants as Passing
 use Rattle.clifford.specs.Meaning.{letters, Ranged}
-use Rattle.clifford.specs.Words.{_≈_, by-test, by-refl, by-eq, by-sym, _⨾_, join, under, before, lessened, cycles, exes, esses, doubleyous, pass}
+use Rattle.clifford.specs.Words.{_≈_, by-test, by-refl, by-eq, by-sym, _⨾_, join, under, before, lessened, exes, esses, doubleyous, pass}
 use Rattle.clifford.specs.Tables.{quadruple, at, rangedTest, rangedTest-is, conj2, Row2, conj2-right}
 use Rattle.clifford.specs.Unique.{one-Clifford}
 
@@ -59,16 +59,6 @@ move-right l a t =
 pub past-right : (l : Passing) (a : ℕ) → a < 3 → Past l a (past l a)
 past-right Passing.X a h = move-right Passing.X a (at 3 (moveTest Passing.X) tt a h)
 past-right Passing.S a h = move-right Passing.S a (at 3 (moveTest Passing.S) tt a h)
-
--- ---- the numbers brought into their ranges
-abbrev pub reduce : ℕ → ℕ → ℕ → ℕ → Clifford
-reduce a b c d = quadruple (a % 3) (b % 2) (c % 4) (d % 8)
-
-pub reduce-ranged : (a b c d : ℕ) → Ranged (reduce a b c d)
-reduce-ranged a b c d = record { a-few = omega arith; b-few = omega arith; c-few = omega arith; d-few = omega arith }
-
-pub reduce-same : (a b c d : ℕ) → letters (quadruple a b c d) ≈ letters (reduce a b c d)
-reduce-same a b c d = join (lessened cycles a) (join (lessened exes b) (join (lessened esses c) (lessened doubleyous d)))
 
 -- ---- one letter before a Clifford
 abbrev pub joined : Clifford → Conj2 → Clifford → Clifford
@@ -121,11 +111,11 @@ pub moved-ranged : (l : Passing) (q : Clifford) → Ranged q → Ranged (moved l
 moved-ranged l q h = record { a-few = past-right l (q .a) (h .a-few) .ranged .a-few; b-few = omega arith; c-few = omega arith; d-few = omega arith }
 
 -- ---- X^b S^c before a Clifford: the moves, one after another, the last letter first
+-- the letter at a place, and the first n letters
 abbrev pub chosen : Bool → Passing
 chosen true = Passing.X
 chosen false = Passing.S
 
--- the letter at a place, and the first n letters
 abbrev pub letterAt : ℕ → ℕ → Passing
 letterAt b n = chosen (ltb n b)
 
@@ -186,6 +176,15 @@ pub preceded-right : (b c : ℕ) (q : Clifford) → Ranged q → times b X ++ (t
 preceded-right b c q h =
     by-eq (sym (append-assoc (times b X) (times c S) (letters q)) ∙ ap (λ u. u ++ letters q) (sym (front-is b c)))
     ⨾ fold-right b (b + c) q h
+
+-- before E^a alone: the rows of the table that the Rust has for it
+abbrev row : ℕ → ℕ → ℕ → Clifford
+row a b c = fold b (b + c) (quadruple a 0 0 0)
+
+pub row-right : (a b c : ℕ) → a < 3 → times b X ++ (times c S ++ cycle a) ≈ letters (row a b c)
+row-right a b c h =
+    under (times b X) (under (times c S) (by-eq (sym (append-nil (cycle a)))))
+    ⨾ preceded-right b c (quadruple a 0 0 0) (record { a-few = h; b-few = omega arith; c-few = omega arith; d-few = omega arith })
 
 -- ---- what the program does
 pub at-S : (l : Passing) (a : ℕ) → l ≡ Passing.S → a + 3 ≡ moveAt l a

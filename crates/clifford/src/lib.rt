@@ -4,8 +4,8 @@ ghost use Prim.Native.Nat.{_≤_, _<_};
 ghost use Rattle.clifford.specs.Meaning.{Ranged, reduced, modulo, Product, Inverse, Split};
 ghost use Rattle.clifford.specs.Arguments.{Reduced};
 ghost use Rattle.clifford.specs.Tables.{Row2, RowInv, RowT};
-ghost use Rattle.clifford.specs.Moves.{moveAt, Past, letterAt, reduce, moved, Preceded};
-ghost use Rattle.clifford.specs.Cliffords.{mulC, invC, splitC, tconjC};
+ghost use Rattle.clifford.specs.Moves.{moveAt, Past, letterAt, moved, Preceded};
+ghost use Rattle.clifford.specs.Cliffords.{reduce, mulC, invC, splitC, tconjC};
 
 pub enum Axis {
     I,
