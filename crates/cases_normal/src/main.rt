@@ -1,6 +1,4 @@
-// Cases of jobs 3, 5 and 6, on either side of each limit: a line each, compared with stdout.
-use clifford::Axis;
-use clifford::Clifford;
+// Cases of jobs 3 and 5, on either side of each limit: a line each, compared with stdout.
 use normal_form::Written;
 use shown::number;
 use shown::text;
@@ -279,89 +277,6 @@ fn long_words() {
     only_identities();
 }
 
-fn clifford_of(q: Clifford) {
-    number(q.a as u64);
-    text(b",");
-    number(q.b as u64);
-    text(b",");
-    number(q.c as u64);
-    text(b",");
-    number(q.d as u64);
-    text(b"\n");
-}
-
-fn axis_of(axis: Axis) {
-    match axis {
-        Axis::I => text(b"I "),
-        Axis::H => text(b"H "),
-        Axis::SH => text(b"SH "),
-    }
-}
-
-fn job6() {
-    text(b"H S ");
-    clifford_of(clifford::clifford_product(1, 0, 1, 5, 0, 0, 1, 0));
-    text(b"S H ");
-    clifford_of(clifford::clifford_product(0, 0, 1, 0, 1, 0, 1, 5));
-    text(b"inverse of 1,1,0,0 ");
-    clifford_of(clifford::clifford_inverse(1, 1, 0, 0));
-    text(b"and times it ");
-    clifford_of(clifford::clifford_product(2, 1, 2, 2, 1, 1, 0, 0));
-    text(b"the least numbers, twice inverted ");
-    let q = clifford::clifford_inverse(
-        -2147483647 - 1,
-        -2147483647 - 1,
-        -2147483647 - 1,
-        -2147483647 - 1,
-    );
-    clifford_of(clifford::clifford_inverse(q.a as i32, q.b as i32, q.c as i32, q.d as i32));
-    text(b"-1,-1,-1,-1 times I ");
-    clifford_of(clifford::clifford_product(-1, -1, -1, -1, 0, 0, 0, 0));
-    text(b"the greatest, split ");
-    let s = clifford::clifford_split(2147483647, 2147483647, 2147483647, 2147483647);
-    let axis = s.axis;
-    let rest = s.rest;
-    axis_of(axis);
-    clifford_of(rest);
-}
-
-// Whether the inverse times the Clifford is not the unit.
-fn wrong_inverse(a: i32, b: i32, c: i32, d: i32) -> bool {
-    let q = clifford::clifford_inverse(a, b, c, d);
-    let p = clifford::clifford_product(q.a as i32, q.b as i32, q.c as i32, q.d as i32, a, b, c, d);
-    if p.a != 0 {
-        return true;
-    }
-    if p.b != 0 {
-        return true;
-    }
-    if p.c != 0 {
-        return true;
-    }
-    p.d != 0
-}
-
-// The quadruple at a place among all 192.
-fn one_inverse(n: u8) {
-    let a = n / 64;
-    let b = n / 32 % 2;
-    let c = n / 8 % 4;
-    let d = n % 8;
-    if wrong_inverse(a as i32, b as i32, c as i32, d as i32) {
-        text(b"wrong inverse ");
-        number(n as u64);
-        text(b"\n");
-    }
-}
-
-fn inverses() {
-    let mut n: u8 = 0;
-    while n < 192 {
-        one_inverse(n);
-        n += 1;
-    }
-}
-
 fn main() {
     document();
     phase_free_words();
@@ -371,7 +286,4 @@ fn main() {
     rooms();
     alphabet();
     long_words();
-    job6();
-    inverses();
-    text(b"all 192 inverses tried\n");
 }

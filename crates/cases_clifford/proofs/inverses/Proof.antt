@@ -1,8 +1,8 @@
--- `cases_normal::inverses` meets its contract. Assumes nothing.
+-- `cases_clifford::inverses` meets its contract. Assumes nothing.
 use Prim.Native.Nat.{_-_, _≤_}
 use native.Mathlib.Omega.{arith}
-use Rattle.cases_normal.proofs.inverses.Statement.{statement}
-use Rattle.cases_normal.proofs.inverses.Tie as tie
+use Rattle.cases_clifford.proofs.inverses.Statement.{statement}
+use Rattle.cases_clifford.proofs.inverses.Tie as tie
 
 abbrev Inv-loop : tie.InvT-loop
 Inv-loop n₀ n = n ≤ 192
