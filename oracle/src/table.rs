@@ -12,10 +12,10 @@ const LETTERS: &[u8] = b"HSXWTI";
 /// The bytes whose numbers stand in the table.
 const NUMBERED: std::ops::RangeInclusive<u8> = b'H'..=b'X';
 
-/// Two letters for each of the 17 rows.
+/// Two letters for each of the 17 rows. That of II, behind the others, is the row of no syllable too.
 const ROWS: [&[u8; 2]; 17] = [
-    b"II", b"HI", b"SI", b"XI", b"HS", b"HX", b"SH", b"SS", b"SX", b"XH", b"XS", b"TI", b"TS", b"TX", b"TH", b"XT",
-    b"HT",
+    b"HI", b"SI", b"XI", b"HS", b"HX", b"SH", b"SS", b"SX", b"XH", b"XS", b"TI", b"TS", b"TX", b"TH", b"XT", b"HT",
+    b"II",
 ];
 
 /// Two letters for each row of kinds.
@@ -81,12 +81,12 @@ fn main() {
     let pairs: Vec<[u8; 2]> = LETTERS.iter().flat_map(|l| LETTERS.iter().map(move |m| [*l, *m])).collect();
     let mut table: Vec<u8> = Vec::new();
     table.extend(ROWS.iter().flat_map(|p| (0..24).map(|code| entry(q.pair(p, code).1))));
-    table.extend(CHANGES.iter().flat_map(|p| (0..24).map(|code| q.pair(p, code).0)));
-    for syllable in [&b""[..], b"TT", b"HTT", b"SHTT"] {
+    for syllable in [&b"TT"[..], b"HTT", b"SHTT"] {
         let made = Matrix::word(syllable);
         table.extend((0..24).map(|code| entry(q.behind(b"", &made.times(q.matrix(code))).expect("a Clifford"))));
     }
     table.extend((0..24u8).map(|code| entry(q.behind(AXES[code as usize / 8], q.matrix(code)).expect("an axis"))));
+    table.extend(CHANGES.iter().flat_map(|p| (0..24).map(|code| q.pair(p, code).0)));
     table.extend(pairs.iter().flat_map(|p| [row(&q, p), 24 * change(&q, p)]));
     println!("pub const TABLE: [u8; {}] = [", table.len() + NUMBERED.count());
     table.iter().for_each(|x| println!("    {x},"));

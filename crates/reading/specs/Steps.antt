@@ -94,22 +94,22 @@ given e k t q h =
 
 -- ---- the parts of the table
 abbrev pub rowOf : List ℕ → ℕ → ℕ → ℕ
-rowOf rows first second = getD rows (600 + (first * 6 + second) * 2) 0
+rowOf rows first second = getD rows (576 + (first * 6 + second) * 2) 0
 
 abbrev pub changeOf : List ℕ → ℕ → ℕ → ℕ
-changeOf rows first second = getD rows (600 + (first * 6 + second) * 2 + 1) 0
+changeOf rows first second = getD rows (576 + (first * 6 + second) * 2 + 1) 0
 
 abbrev pub entryOf : List ℕ → ℕ → ℕ → ℕ
 entryOf rows row g = getD rows (row % 32 * 24 + g) 0
 
 abbrev pub kindAt : List ℕ → ℕ → ℕ → ℕ
-kindAt rows change g = getD rows (408 + change + g) 0
+kindAt rows change g = getD rows (504 + change + g) 0
 
 abbrev pub syllableEntry : List ℕ → ℕ → ℕ → ℕ
-syllableEntry rows s g = getD rows (480 + s * 24 + g) 0
+syllableEntry rows s g = getD rows (384 + s * 24 + g) 0
 
 abbrev pub axisEntry : List ℕ → ℕ → ℕ
-axisEntry rows g = getD rows (576 + g) 0
+axisEntry rows g = getD rows (480 + g) 0
 
 -- what is tested of an entry, of a row, and of a part
 abbrev pairTest : ℕ → ℕ → ℕ → Letter → Letter → ℕ → ℕ → Bool
@@ -140,20 +140,20 @@ abbrev axesTest : List ℕ → Bool
 axesTest rows = all 24 (λ g. all 8 (axisTest rows g))
 
 abbrev letterTest : List ℕ → ℕ → Bool
-letterTest rows k = eqb (getD rows (672 + k) 0) (numberOf (k + 72))
+letterTest rows k = eqb (getD rows (648 + k) 0) (numberOf (k + 72))
 
 abbrev lettersTest : List ℕ → Bool
 lettersTest rows = all 17 (letterTest rows)
 
 pub record Right (rows : List ℕ) : Type 0 where
-  pub long : length rows ≡ 689
+  pub long : length rows ≡ 665
   pub pairs : T (pairsTest rows)
   pub syllables : T (syllablesTest rows)
   pub axes : T (axesTest rows)
   pub letters : T (lettersTest rows)
 
 pub right : {rows : List ℕ}
-    → length rows ≡ 689
+    → length rows ≡ 665
     → T ((pairsTest rows && syllablesTest rows) && (axesTest rows && lettersTest rows))
     → Right rows
 right {rows} l t =
@@ -296,9 +296,9 @@ split-at rows right t h axis rest e f = λ i. record { axis = axes i; rest = res
     rests = ap tailOf f ∙ axis-row rows right t h
 
 -- ---- the number of a byte
-pub number-in : (rows : List ℕ) → Right rows → (b : ℕ) → 72 ≤ b → b ≤ 88 → getD rows (672 + (b - 72)) 0 ≡ numberOf b
+pub number-in : (rows : List ℕ) → Right rows → (b : ℕ) → 72 ≤ b → b ≤ 88 → getD rows (648 + (b - 72)) 0 ≡ numberOf b
 number-in rows right b l h =
-    eqb→eq (getD rows (672 + (b - 72)) 0) (numberOf (b - 72 + 72))
+    eqb→eq (getD rows (648 + (b - 72)) 0) (numberOf (b - 72 + 72))
     (at 17 (letterTest rows) (right .letters) (b - 72) (omega arith))
     ∙ ap numberOf (back b l)
   where

@@ -26,16 +26,16 @@ pub(crate) const IDENTITY: u8 = 5;
 // A byte that is no letter.
 const OUTSIDE: u8 = 6;
 
-// Where the parts of the table begin, behind its rows.
-const KINDS: usize = 408;
+// Where the parts of the table begin. The last row of two letters, which is the identity's, is the first of the syllables.
+const SYLLABLES: usize = 384;
 
-const SYLLABLES: usize = 480;
+const AXES: usize = 480;
 
-const AXES: usize = 576;
+const KINDS: usize = 504;
 
-const PAIRS: usize = 600;
+const PAIRS: usize = 576;
 
-const LETTERS: usize = 672;
+const LETTERS: usize = 648;
 
 pub(crate) fn number(table: &[u8], b: u8) -> u8
     requires { ⌜ Right (now table) ⌝ }
