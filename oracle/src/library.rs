@@ -28,23 +28,44 @@ impl Library {
     }
 }
 
+/// The exports: in `c` those of the library, in `before` those of an earlier archive (`build` has renamed them), where
+/// one is timed beside it.
 #[cfg(linked)]
-pub mod c {
-    extern "C" {
-        pub fn dunrossel_reduce(k: i64, n: u8, zw: *const i64, out: *mut i64) -> u8;
-        pub fn dunrossel_matrix(word: *const u8, len: usize, out: *mut i64, place: *mut u64) -> u8;
-        pub fn dunrossel_normalise(word: *const u8, len: usize, buf: *mut u8, room: usize, out: *mut u64) -> u8;
-        pub fn dunrossel_phase_free(word: *const u8, len: usize, buf: *mut u8, room: usize, out: *mut u64) -> u8;
-        pub fn dunrossel_synthesise(k: i64, n: u8, zw: *const i64, buf: *mut u8, room: usize, out: *mut u64) -> u8;
-        pub fn dunrossel_clifford_product(x: *const i32, y: *const i32, out: *mut i32);
-        pub fn dunrossel_clifford_inverse(x: *const i32, out: *mut i32);
-        pub fn dunrossel_clifford_coset(x: *const i32, out: *mut i32);
-        pub fn dunrossel_view(k: i64, n: u8, zw: *const i64, out: *mut f64) -> u8;
-        pub fn dunrossel_bench(record: *const u8, len: usize, out: *mut u8) -> usize;
-        pub fn dunrossel_qasm2_write(word: *const u8, len: usize, buf: *mut u8, room: usize, out: *mut u64) -> u8;
-        pub fn dunrossel_qasm3_write(word: *const u8, len: usize, buf: *mut u8, room: usize, out: *mut u64) -> u8;
-        pub fn dunrossel_qasm_read(text: *const u8, len: usize, buf: *mut u8, room: usize, out: *mut u64) -> u8;
-    }
+macro_rules! exports {
+    ($(pub fn $name:ident($($argument:ident: $type:ty),*) $(-> $answer:ty)?;)*) => {
+        pub mod c {
+            extern "C" {
+                $(pub fn $name($($argument: $type),*) $(-> $answer)?;)*
+            }
+        }
+
+        #[cfg(before)]
+        pub mod before {
+            extern "C" {
+                $(
+                    #[link_name = concat!("before_", stringify!($name))]
+                    pub fn $name($($argument: $type),*) $(-> $answer)?;
+                )*
+            }
+        }
+    };
+}
+
+#[cfg(linked)]
+exports! {
+    pub fn dunrossel_reduce(k: i64, n: u8, zw: *const i64, out: *mut i64) -> u8;
+    pub fn dunrossel_matrix(word: *const u8, len: usize, out: *mut i64, place: *mut u64) -> u8;
+    pub fn dunrossel_normalise(word: *const u8, len: usize, buf: *mut u8, room: usize, out: *mut u64) -> u8;
+    pub fn dunrossel_phase_free(word: *const u8, len: usize, buf: *mut u8, room: usize, out: *mut u64) -> u8;
+    pub fn dunrossel_synthesise(k: i64, n: u8, zw: *const i64, buf: *mut u8, room: usize, out: *mut u64) -> u8;
+    pub fn dunrossel_clifford_product(x: *const i32, y: *const i32, out: *mut i32);
+    pub fn dunrossel_clifford_inverse(x: *const i32, out: *mut i32);
+    pub fn dunrossel_clifford_coset(x: *const i32, out: *mut i32);
+    pub fn dunrossel_view(k: i64, n: u8, zw: *const i64, out: *mut f64) -> u8;
+    pub fn dunrossel_bench(record: *const u8, len: usize, out: *mut u8) -> usize;
+    pub fn dunrossel_qasm2_write(word: *const u8, len: usize, buf: *mut u8, room: usize, out: *mut u64) -> u8;
+    pub fn dunrossel_qasm3_write(word: *const u8, len: usize, buf: *mut u8, room: usize, out: *mut u64) -> u8;
+    pub fn dunrossel_qasm_read(text: *const u8, len: usize, buf: *mut u8, room: usize, out: *mut u64) -> u8;
 }
 
 #[cfg(linked)]

@@ -104,7 +104,7 @@ pub fn n_after_t_inv(k: i64, n: u8, zw: &[i64; 8]) -> Option<u8> {
     caught(|| triples::n(&triples::triple(k, n, zw).mul_by_t_inv_from_left()))
 }
 
-fn clifford(x: &[i32; 4]) -> Clifford {
+pub fn clifford(x: &[i32; 4]) -> Clifford {
     Clifford::new(x[0], x[1], x[2], x[3])
 }
 

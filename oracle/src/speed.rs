@@ -1,6 +1,7 @@
 //! Times the library and the published Rust on the same inputs in one process, and prints tables for docs/SPEED.md.
 //! A round times both, one after the other; the ratio is taken round by round. A word that takes the Rust's SHT arm
-//! is timed as any other. OpenQASM, which the Rust has not, is timed against plain.rs.
+//! is timed as any other. OpenQASM, which the Rust has not, is timed against plain.rs. Where an earlier archive is linked
+//! too (`bench-speed` with BEFORE), job 6 is timed in both.
 
 #[allow(dead_code)]
 mod abi;
@@ -14,6 +15,7 @@ mod plain;
 #[allow(dead_code)]
 mod rust;
 mod speed_circuits;
+mod speed_cliffords;
 
 use inputs::{Random, Triple, LETTERS, PLAIN};
 use library::c;
@@ -56,6 +58,17 @@ fn timed(calls: usize, work: impl FnOnce()) -> f64 {
     (now() - start) / calls as f64
 }
 
+/// The same, one call for each input, all of them in turn.
+fn timed_over<'a, I>(inputs: &'a [I], turns: usize, call: impl Fn(&'a I)) -> f64 {
+    timed(inputs.len() * turns, || (0..turns).for_each(|_| inputs.iter().for_each(&call)))
+}
+
+/// The sides one after the other, in rounds; the first round is not counted. Each side's times.
+fn rounds(sides: &[&dyn Fn() -> f64]) -> Vec<Vec<f64>> {
+    let all: Vec<Vec<f64>> = (0..=ROUNDS).map(|_| sides.iter().map(|side| side()).collect()).collect();
+    (0..sides.len()).map(|i| all[1..].iter().map(|round| round[i]).collect()).collect()
+}
+
 impl Row {
     fn print(&self) {
         let (ours, letter) = (median(&self.ours), self.per);
@@ -64,7 +77,7 @@ impl Row {
             println!("| {} | | {:.3} | {each} | |", self.what, ours / 1000.0);
             return;
         }
-        let [middle, least, most] = self.ratios();
+        let [middle, least, most] = ratios(&self.rust, &self.ours);
         println!(
             "| {} | {:.3} | {:.3} | {each} | {middle:.1} ({least:.1} to {most:.1}) |",
             self.what,
@@ -72,16 +85,16 @@ impl Row {
             ours / 1000.0,
         );
     }
-
-    /// Median, least and most.
-    fn ratios(&self) -> [f64; 3] {
-        let ratios: Vec<f64> = self.rust.iter().zip(&self.ours).map(|(r, o)| r / o).collect();
-        let least = ratios.iter().copied().fold(f64::INFINITY, f64::min);
-        [median(&ratios), least, ratios.iter().copied().fold(0.0, f64::max)]
-    }
 }
 
-/// Both sides over the inputs, in rounds; the first round is not counted.
+/// How much longer one side takes than another, round by round: median, least and most.
+fn ratios(one: &[f64], other: &[f64]) -> [f64; 3] {
+    let ratios: Vec<f64> = one.iter().zip(other).map(|(x, y)| x / y).collect();
+    let least = ratios.iter().copied().fold(f64::INFINITY, f64::min);
+    [median(&ratios), least, ratios.iter().copied().fold(0.0, f64::max)]
+}
+
+/// Both sides over the inputs, in rounds.
 fn race<'a, I, P>(
     what: String,
     per: f64,
@@ -91,24 +104,18 @@ fn race<'a, I, P>(
     prepare: impl Fn(&'a I) -> P,
     rust: impl Fn(P),
 ) -> Row {
-    let mut row = Row { what, per, ours: Vec::new(), rust: Vec::new() };
-    for round in 0..=ROUNDS {
-        let calls = inputs.len() * turns;
-        let a = timed(calls, || (0..turns).for_each(|_| inputs.iter().for_each(&ours)));
+    let one = || timed_over(inputs, turns, &ours);
+    let other = || {
         let prepared: Vec<P> = (0..turns).flat_map(|_| inputs.iter().map(&prepare)).collect();
-        let b = timed(calls, || prepared.into_iter().for_each(&rust));
-        if round > 0 {
-            row.ours.push(a);
-            row.rust.push(b);
-        }
-    }
-    row
+        timed(prepared.len(), || prepared.into_iter().for_each(&rust))
+    };
+    let [ours, rust] = rounds(&[&one, &other]).try_into().unwrap();
+    Row { what, per, ours, rust }
 }
 
 fn alone<I>(what: String, inputs: &[I], turns: usize, ours: impl Fn(&I)) {
-    let time = |_| timed(inputs.len() * turns, || (0..turns).for_each(|_| inputs.iter().for_each(&ours)));
-    let all: Vec<f64> = (0..=ROUNDS).map(time).skip(1).collect();
-    Row { what, per: 0.0, ours: all, rust: Vec::new() }.print();
+    let [ours] = rounds(&[&|| timed_over(inputs, turns, &ours)]).try_into().unwrap();
+    Row { what, per: 0.0, ours, rust: Vec::new() }.print();
 }
 
 fn text(word: &[u8]) -> &str {
@@ -300,5 +307,6 @@ fn main() {
     for k in [10, 60] {
         alone(format!("numeric view, k = {k}"), &triples(&mut random, k, 100), 50, view);
     }
+    speed_cliffords::table();
     speed_circuits::table();
 }

@@ -3,7 +3,7 @@
 use crate::inputs::Random;
 use crate::library::c;
 use crate::plain::{self, Answer, Edition};
-use crate::{median, race, Lent, Row};
+use crate::{median, race, ratios, Lent, Row};
 use std::hint::black_box;
 
 type Export = unsafe extern "C" fn(*const u8, usize, *mut u8, usize, *mut u64) -> u8;
@@ -51,7 +51,7 @@ fn timed(what: &str, (export, job): (Export, Plain), inputs: &[Vec<u8>], bytes: 
 
 fn print(row: &Row) {
     let rate = |times: &[f64]| row.per / median(times) * 1000.0;
-    let [middle, least, most] = row.ratios();
+    let [middle, least, most] = ratios(&row.rust, &row.ours);
     let (plain, ours) = (rate(&row.rust), rate(&row.ours));
     println!("| {} | {plain:.0} | {ours:.0} | {middle:.2} ({least:.2} to {most:.2}) |", row.what);
 }
