@@ -264,7 +264,7 @@ fn all_triples(s: &mut Sample) {
     s.triple(&(60, 0, [big; 8]), 0);
 }
 
-/// Every row of the four tables, and the edges of the numbers.
+/// Every row of the Rust's four tables, and the edges of the numbers.
 fn all_cliffords(s: &mut Sample) {
     let all = cliffords();
     for (i, x) in all.iter().enumerate() {

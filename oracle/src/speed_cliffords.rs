@@ -28,7 +28,7 @@ const PRODUCT: &[OfTwo] = of_each!(dunrossel_clifford_product);
 const INVERSE: &[OfOne] = of_each!(dunrossel_clifford_inverse);
 const COSET: &[OfOne] = of_each!(dunrossel_clifford_coset);
 
-/// Every pair once, so each Clifford is the first of 192, in an order that is the same at every run and too long for the
+/// Every pair once, so each Clifford is the first in 192 of them, in an order that is the same at every run and too long for the
 /// processor to learn.
 fn pairs() -> Vec<Pair> {
     let all = cliffords();
@@ -40,7 +40,7 @@ fn pairs() -> Vec<Pair> {
     pairs
 }
 
-/// What an export writes; it stays where it was written, so that no copy of it is timed.
+/// What an export writes. A timed call drops it, so that no copy of it is timed.
 fn written(call: impl FnOnce(*mut i32)) -> [i32; 5] {
     let mut out = [0; 5];
     call(out.as_mut_ptr());

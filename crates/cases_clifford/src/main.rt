@@ -1,4 +1,4 @@
-// Cases of job 6, and the rows of the table that its product works out: a line each, compared with stdout.
+// Cases of job 6, a line each, compared with stdout; then all inverses, and the Rust's rows against what the product works out.
 ghost use Prim.Native.Nat.{_<_};
 use clifford::Axis;
 use clifford::Clifford;
@@ -279,5 +279,5 @@ fn main() {
     inverses();
     text(b"all 192 inverses tried\n");
     rows();
-    text(b"all 24 rows of CONJ3_TABLE worked out\n");
+    text(b"all 24 rows of CONJ3_TABLE tried\n");
 }

@@ -22,7 +22,7 @@ use Rattle.clifford.specs.Words.{_≈_, by-test, by-refl, by-eq, by-sym,
 use Rattle.clifford.specs.Tables.{quadruple, at, rangedTest, rangedTest-is, conj2, Row2, conj2-right}
 use Rattle.clifford.specs.Unique.{one-Clifford}
 
--- ---- the two moves, by matrices: X E^a and S E^a are E^a' X^b' S^c' omega^d'
+-- ---- the moves, by matrices: X E^a and S E^a are E^a' X^b' S^c' omega^d', for a = 0, 1, 2
 abbrev pub letter : Passing → Letter
 letter Passing.X = X
 letter Passing.S = S
@@ -126,10 +126,6 @@ front b (suc n) = front b n ++ (letter (letterAt b n) ∷ [])
 abbrev pub fold : ℕ → ℕ → Clifford → Clifford
 fold b zero q = q
 fold b (suc n) q = fold b n (moved (letterAt b n) q)
-
-pub fold-ranged : (b n : ℕ) (q : Clifford) → Ranged q → Ranged (fold b n q)
-fold-ranged b zero q h = h
-fold-ranged b (suc n) q h = fold-ranged b n (moved (letterAt b n) q) (moved-ranged (letterAt b n) q h)
 
 fold-right : (b n : ℕ) (q : Clifford) → Ranged q → front b n ++ letters q ≈ letters (fold b n q)
 fold-right b zero q h = by-refl (letters q)

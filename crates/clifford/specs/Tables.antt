@@ -34,35 +34,32 @@ conj2-rows =
     record { c = 1; d = 6 } ∷
     []
 
-abbrev pub inverse-row : ℕ → ℕ → ℕ → ℕ → Clifford
-inverse-row = quadruple
-
 abbrev pub cinv-rows : List Clifford
 cinv-rows =
-    inverse-row 0 0 0 0 ∷
-    inverse-row 0 0 3 0 ∷
-    inverse-row 0 0 2 0 ∷
-    inverse-row 0 0 1 0 ∷
-    inverse-row 0 1 0 0 ∷
-    inverse-row 0 1 1 6 ∷
-    inverse-row 0 1 2 4 ∷
-    inverse-row 0 1 3 2 ∷
-    inverse-row 2 0 0 0 ∷
-    inverse-row 1 0 1 2 ∷
-    inverse-row 2 1 0 0 ∷
-    inverse-row 1 1 3 4 ∷
-    inverse-row 2 1 2 2 ∷
-    inverse-row 1 1 1 6 ∷
-    inverse-row 2 0 2 2 ∷
-    inverse-row 1 0 3 4 ∷
-    inverse-row 1 0 0 0 ∷
-    inverse-row 2 1 3 6 ∷
-    inverse-row 1 1 2 2 ∷
-    inverse-row 2 0 3 6 ∷
-    inverse-row 1 0 2 0 ∷
-    inverse-row 2 1 1 6 ∷
-    inverse-row 1 1 0 2 ∷
-    inverse-row 2 0 1 6 ∷
+    quadruple 0 0 0 0 ∷
+    quadruple 0 0 3 0 ∷
+    quadruple 0 0 2 0 ∷
+    quadruple 0 0 1 0 ∷
+    quadruple 0 1 0 0 ∷
+    quadruple 0 1 1 6 ∷
+    quadruple 0 1 2 4 ∷
+    quadruple 0 1 3 2 ∷
+    quadruple 2 0 0 0 ∷
+    quadruple 1 0 1 2 ∷
+    quadruple 2 1 0 0 ∷
+    quadruple 1 1 3 4 ∷
+    quadruple 2 1 2 2 ∷
+    quadruple 1 1 1 6 ∷
+    quadruple 2 0 2 2 ∷
+    quadruple 1 0 3 4 ∷
+    quadruple 1 0 0 0 ∷
+    quadruple 2 1 3 6 ∷
+    quadruple 1 1 2 2 ∷
+    quadruple 2 0 3 6 ∷
+    quadruple 1 0 2 0 ∷
+    quadruple 2 1 1 6 ∷
+    quadruple 1 1 0 2 ∷
+    quadruple 2 0 1 6 ∷
     []
 
 abbrev pub tconj-rows : List Tconj

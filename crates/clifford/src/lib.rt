@@ -1,4 +1,4 @@
-// Job 6: Cliffords. (a,b,c,d) is E^a X^b S^c omega^d; product, inverse, coset split and the passing of a T, by three tables and two moves.
+// Job 6: Cliffords. (a,b,c,d) is E^a X^b S^c omega^d; product, inverse, coset split and the passing of a T, by three tables and the moves of X and S past E.
 ghost use mathlib.Core.Path.{_≡_};
 ghost use Prim.Native.Nat.{_≤_, _<_};
 ghost use Rattle.clifford.specs.Meaning.{Ranged, reduced, modulo, Product, Inverse, Split};
