@@ -12,7 +12,8 @@ use Rattle.exact.specs.Meaning.Word.{Letter, H, S, X, W, T′}
 use Rattle.exact.specs.Meaning.Triple.{Triple}
 use Rattle.exact.specs.Cases.Letters.{eqWord, eqWord-is}
 use Rattle.exact.specs.Matrices.Least.{reduce}
-use Rattle.steps.specs.Residues.{powerBy, fallsBy, back}
+use Rattle.steps.specs.Meaning.{powerBy}
+use Rattle.steps.specs.Residues.{fallsBy, back}
 use Rattle.steps.specs.Step.{next}
 use Rattle.steps.specs.Closing.{closing}
 use Rattle.steps.specs.Steps.{gathered, letters, steps}

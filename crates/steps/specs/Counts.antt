@@ -15,7 +15,8 @@ use Rattle.exact.specs.Meaning.Limits.{deepest, enough}
 use Rattle.exact.specs.Matrices.Same.{Same-sym, Same-trans}
 use Rattle.exact.specs.Unique.Tails.{tees-append}
 use Rattle.exact.specs.Unique.Normal.{normal-fewest}
-use Rattle.steps.specs.Step.{Ready, block, power, next}
+use Rattle.steps.specs.Meaning.{power}
+use Rattle.steps.specs.Step.{Ready, block, next}
 use Rattle.steps.specs.Closing.{closing-length, closing-tees, length-times}
 use Rattle.steps.specs.Steps.{letters, letters-end, letters-more, letters-same}
 use Rattle.steps.specs.Steps.{steps, by-steps, steps-more, steps-few}

@@ -1,8 +1,11 @@
 -- The steps of docs/SCOPE.md, Synthesis: why they end, what they write and how much. Proofs over the definitions of `exact`.
+pub mod Meaning
 pub mod Residues
 pub mod Step
 pub mod Closing
 pub mod Steps
+pub mod Followed
+pub mod Exactly
 pub mod Counts
 pub mod Synthesised
 pub mod Tees

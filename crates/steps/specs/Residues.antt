@@ -1,4 +1,4 @@
--- Residues in a step: the tables of docs/SCOPE.md, Synthesis, m by them, and how the parities of z and of omega^-m·w lie then, by one computed test
+-- Residues in a step: m by them, whether k falls, and how the parities of z and of omega^-m·w lie then, by one computed test
 -- over all 256 pairs of residues. Assumes nothing.
 use mathlib.Core.Path.{_≡_, refl, sym, _∙_, ap, ap₂}
 use mathlib.Core.Bool.{Bool, true, false, not, cond, _&&_}
@@ -18,26 +18,14 @@ use Rattle.exact.specs.Algebra.Solver.{Expr, ⊖, exprs}
 use Rattle.exact.specs.Algebra.Omega.{quad-path, X₀, parts, solveQ}
 use Rattle.exact.specs.Algebra.Norm.{norm, norm-is, norm-residue, normResidue, all-parities}
 use Rattle.exact.specs.Algebra.Over.{divides}
+use Rattle.steps.specs.Meaning.{bitShifts, bitShift, lessBy, powerBy}
 
--- ---- the tables, by residue
-abbrev pub bitShifts : List ℕ
-bitShifts = 0 ∷ 0 ∷ 1 ∷ 0 ∷ 2 ∷ 0 ∷ 1 ∷ 3 ∷ 3 ∷ 3 ∷ 0 ∷ 2 ∷ 2 ∷ 1 ∷ 0 ∷ 0 ∷ []
-
+-- ---- how many parities are odd, by residue
 abbrev pub bitCounts : List ℕ
 bitCounts = 0 ∷ 1 ∷ 1 ∷ 2 ∷ 1 ∷ 2 ∷ 2 ∷ 3 ∷ 1 ∷ 2 ∷ 2 ∷ 3 ∷ 2 ∷ 3 ∷ 3 ∷ 4 ∷ []
 
-abbrev pub bitShift : ℕ → ℕ
-bitShift r = getD bitShifts r 0
-
 abbrev pub bitCount : ℕ → ℕ
 bitCount r = getD bitCounts r 0
-
--- m: that of w's residue less that of z's, plus 4 if negative
-abbrev lessBy : ℕ → ℕ → ℕ
-lessBy p q = cond (ltb q p) (q + 4 - p) (q - p)
-
-unfoldable pub powerBy : ℕ → ℕ → ℕ
-powerBy r s = lessBy (bitShift r) (bitShift s)
 
 -- whether k falls
 unfoldable pub fallsBy : ℕ → ℕ → Bool
@@ -50,7 +38,7 @@ odds x = record { a = odd (x .a); b = odd (x .b); c = odd (x .c); d = odd (x .d)
 abbrev residueOf : Quad Bool → ℕ
 residueOf q = bit (q .a) * 8 + bit (q .b) * 4 + bit (q .c) * 2 + bit (q .d)
 
-abbrev classOf : Quad Bool → ℕ
+abbrev pub classOf : Quad Bool → ℕ
 classOf q = normResidue (q .a) (q .b) (q .c) (q .d)
 
 abbrev dividesOf : Quad Bool → Bool
@@ -68,7 +56,7 @@ abbrev equal : Quad Bool → Quad Bool → Bool
 equal p q = not (xr (p .a) (q .a)) && (not (xr (p .b) (q .b)) && (not (xr (p .c) (q .c)) && not (xr (p .d) (q .d))))
 
 -- ---- the test
-abbrev implies : Bool → Bool → Bool
+abbrev pub implies : Bool → Bool → Bool
 implies true b = b
 implies false b = true
 
@@ -79,14 +67,14 @@ pairTest p q =
     (equal p (backOf (lessBy (bitShift (residueOf p)) (bitShift (residueOf q))) q))
     (equal (opposite p) (backOf (lessBy (bitShift (residueOf p)) (bitShift (residueOf q))) q) && eqb (classOf p) 0b0001))
 
-abbrev everywhere : (Quad Bool → Bool) → Bool
+abbrev pub everywhere : (Quad Bool → Bool) → Bool
 everywhere f =
     let g : Bool → Bool → Bool → Bool → Bool = λ a b c d. f (record { a = a; b = b; c = c; d = d }) in
     let h : Bool → Bool → Bool → Bool = λ a b c. g a b c true && g a b c false in
     let i : Bool → Bool → Bool = λ a b. h a b true && h a b false in
     (i true true && i true false) && (i false true && i false false)
 
-everywhere-at : (f : Quad Bool → Bool) → T (everywhere f) → (q : Quad Bool) → T (f q)
+pub everywhere-at : (f : Quad Bool → Bool) → T (everywhere f) → (q : Quad Bool) → T (f q)
 everywhere-at f t q = all-parities (λ a b c d. f (record { a = a; b = b; c = c; d = d })) t (q .a) (q .b) (q .c) (q .d)
 
 all-pairs : (p q : Quad Bool) → T (pairTest p q)
@@ -238,10 +226,10 @@ module _ (z w : Ω) (classes : residue (norm z) ≡ residue (norm w)) (some : T 
 
 -- ---- at a unitary triple with k over 0 the classes of z and w are one
 -- a class by the parities of the cross sum and of the squares
-abbrev classBy : Bool → Bool → ℕ
+abbrev pub classBy : Bool → Bool → ℕ
 classBy p q = bit p * 8 + 0 * 4 + bit p * 2 + bit q
 
-class-is : (x : Ω) → residue (norm x) ≡ classBy (odd (crosses ints x)) (odd (squares ints x))
+pub class-is : (x : Ω) → residue (norm x) ≡ classBy (odd (crosses ints x)) (odd (squares ints x))
 class-is x = ap residue (norm-is x) ∙ ap (λ p. bit p * 8 + 0 * 4 + bit q * 2 + bit (odd (squares ints x))) (odd-neg (crosses ints x))
   where
     q : Bool
@@ -261,7 +249,7 @@ four-classes x f g h k = go (odd (crosses ints x)) (odd (squares ints x)) (class
     go false true e = g e
     go false false e = f e
 
-even-power : (k : ℕ) → odd (pos (2 ^ suc k)) ≡ false
+pub even-power : (k : ℕ) → odd (pos (2 ^ suc k)) ≡ false
 even-power k = ne-eqb (2 ^ suc k % 2) 1 (λ e. omega arith)
 
 pub even-sum : (a b c : ℤ) → a +ℤ b ≡ c → odd c ≡ false → odd a ≡ odd b

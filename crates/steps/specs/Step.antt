@@ -29,7 +29,8 @@ use Rattle.exact.specs.Matrices.Words.{word-append}
 use Rattle.exact.specs.Matrices.Triples.{act, acts, unitary-same, unitary-act}
 use Rattle.exact.specs.Matrices.Divided.{Divided}
 use Rattle.exact.specs.Matrices.Least.{reduced-test, lowered, lowered-same, modEight, Reduces, reduce, reduce-reduces, answer-unique}
-use Rattle.steps.specs.Residues.{odds, opposite, back, powerBy-few, powerOf, fallsOf}
+use Rattle.steps.specs.Meaning.{power, undo}
+use Rattle.steps.specs.Residues.{odds, opposite, back, powerBy-few, fallsOf}
 use Rattle.steps.specs.Residues.{agreeing, differing, stays-class, one-class, four-classes, class-0000, class-0001}
 
 pub record Ready (t : Triple) : Type 0 where
@@ -49,15 +50,12 @@ pub unitary-all : (u : List Letter) {t : Triple} → Unitary t → Unitary (actA
 unitary-all [] h = h
 unitary-all (l ∷ u) h = unitary-act l (unitary-all u h)
 
--- ---- the letters of a step, T^m·H with S for TT, and its inverse H·T^-m
+-- ---- the letters of a step, T^m·H with S for TT; its inverse is H·T^-m
 abbrev pub block : ℕ → List Letter
 block zero = H ∷ []
 block (suc zero) = T′ ∷ H ∷ []
 block (suc (suc zero)) = S ∷ H ∷ []
 block (suc (suc (suc m))) = T′ ∷ S ∷ H ∷ []
-
-abbrev pub undo : ℕ → List Letter
-undo m = H ∷ times (8 - m) T′
 
 block-undo : (m : ℕ) → m < 4 → Same (word (block m ++ undo m)) unit
 block-undo zero h = same-by (word (block 0 ++ undo 0)) unit tt
@@ -73,9 +71,6 @@ block-e (suc (suc zero)) = refl
 block-e (suc (suc (suc m))) = refl
 
 -- ---- the step
-abbrev pub power : Triple → ℕ
-power t = powerOf (t .z) (t .w)
-
 abbrev pub falls : Triple → Bool
 falls t = fallsOf (t .z) (t .w)
 
@@ -156,11 +151,11 @@ undone m t = ap (act H) (turned (8 - m) t)
 abbrev pub every : Bool → Quad Bool
 every b = record { a = b; b = b; c = b; d = b }
 
-abbrev sums : Quad Bool → Quad Bool → Quad Bool
+abbrev pub sums : Quad Bool → Quad Bool → Quad Bool
 sums p q = record { a = xr (p .a) (q .a); b = xr (p .b) (q .b); c = xr (p .c) (q .c); d = xr (p .d) (q .d) }
 
 module _ (x y : Ω) where
-  sum-odds : odds (addQ ints x y) ≡ sums (odds x) (odds y)
+  pub sum-odds : odds (addQ ints x y) ≡ sums (odds x) (odds y)
   sum-odds = quad-path (odd-add (x .a) (y .a)) (odd-add (x .b) (y .b)) (odd-add (x .c) (y .c)) (odd-add (x .d) (y .d))
 
   difference-odds : odds (addQ ints x (negQ ints y)) ≡ odds (addQ ints x y)
@@ -398,6 +393,12 @@ module _ (t : Triple) (k : ℕ) (ready : Ready t) (e : t .k ≡ suc k) where
     pub next-stays : next t ≡ stayed t
     next-stays = next-by (stayed t) (ready .unitary) stayed-reduced (omega arith) (Same-trans stayed-same (Same-sym x-same))
 
+    pub stays-0001 : residue (norm (t .z)) ≡ 0b0001
+    stays-0001 = stays-class (t .z) (t .w) classes some f
+
+    pub next-not-0001 : residue (norm (next t .z)) ≡ 0b0001 → ⊥
+    next-not-0001 g = odd-over (x .z) z-odd (ap (λ r. residue (norm (r .z))) (sym next-stays) ∙ g)
+
 -- after a step that keeps k it falls
 pub then-falls : (t : Triple) (k : ℕ) → Ready t → t .k ≡ suc k → falls t ≡ false → falls (next t) ≡ true
 then-falls t k ready e f = go (falls (next t)) refl
@@ -405,20 +406,12 @@ then-falls t k ready e f = go (falls (next t)) refl
     s : Triple
     s = next t
 
-    is : s ≡ stayed t
-    is = next-stays t k ready e f
-
     k-is : s .k ≡ suc k
-    k-is = ap (λ r. r .k) is ∙ e
+    k-is = ap (λ r. r .k) (next-stays t k ready e f) ∙ e
 
     again : Ready s
     again = next-ready (ready .unitary)
 
-    class-again : falls s ≡ false → residue (norm (s .z)) ≡ 0b0001
-    class-again = stays-class (s .z) (s .w) (classes s k again k-is) (some s k again k-is)
-
     go : (b : Bool) → falls s ≡ b → b ≡ true
     go true g = refl
-    go false g =
-        absurd
-        (odd-over (explicit (power t) t .z) (z-odd t k ready e f) (ap (λ r. residue (norm (r .z))) (sym is) ∙ class-again g))
+    go false g = absurd (next-not-0001 t k ready e f (stays-0001 s k again k-is g))

@@ -10,7 +10,8 @@ use Rattle.exact.specs.Meaning.Word.{Letter, word}
 use Rattle.exact.specs.Meaning.Triple.{Triple, entries}
 use Rattle.exact.specs.Matrices.Same.{Same-refl, Same-trans, Same-of, Same-mul}
 use Rattle.exact.specs.Matrices.Words.{word-append}
-use Rattle.steps.specs.Step.{Ready, block, power, falls, next, next-ready, step-same}
+use Rattle.steps.specs.Meaning.{power}
+use Rattle.steps.specs.Step.{Ready, block, falls, next, next-ready, step-same}
 use Rattle.steps.specs.Step.{next-falls, next-stays, then-falls}
 use Rattle.steps.specs.Closing.{closing, closing-is}
 

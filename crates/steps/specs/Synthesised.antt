@@ -1,11 +1,11 @@
--- Exact synthesis whole: the letters that a unitary triple, reduced first, is taken apart into have its matrix, phase included; when a
--- step exists, and what it is; and what follows for words: their normal words' lengths, by the least exponent. Assumes nothing.
+-- Exact synthesis whole: the letters that a unitary triple, reduced first, is taken apart into have its matrix, phase included; what
+-- a reduction answers; and what follows for words: their normal words' lengths, by the least exponent. Assumes nothing.
 use mathlib.Core.Path.{_≡_, ap}
 use mathlib.Core.List.{List}
-use Prim.Native.Nat.{ℕ, zero, suc, _+_, _*_, _≤_, _<_}
+use Prim.Native.Nat.{ℕ, zero, suc, _+_, _*_, _≤_}
 use native.Mathlib.Omega.{arith}
 use lib.ListN.{length}
-use Rattle.exact.specs.Meaning.Matrix.{_·_, Same, Least}
+use Rattle.exact.specs.Meaning.Matrix.{Same, Least}
 use Rattle.exact.specs.Meaning.Word.{Letter, word}
 use Rattle.exact.specs.Meaning.Triple.{Triple, entries, Unitary}
 use Rattle.exact.specs.Meaning.Normal.{Normal}
@@ -13,33 +13,12 @@ use Rattle.exact.specs.Meaning.Limits.{deepest, enough}
 use Rattle.exact.specs.Matrices.Same.{Same-sym, Same-trans, Same-of}
 use Rattle.exact.specs.Matrices.Triples.{unitary-same, tripleOf, word-triple, word-unitary}
 use Rattle.exact.specs.Matrices.Least.{Reduces, reduce, reduce-reduces, answer-unique, least-unique, least-same}
-use Rattle.steps.specs.Step.{Ready, Ended, Stepped, reduction, block}
-use Rattle.steps.specs.Step.{power, power-few, next, next-ready, next-n, step-same}
-use Rattle.steps.specs.Steps.{left, left-few, left-next, letters, letters-same}
+use Rattle.steps.specs.Meaning.{power}
+use Rattle.steps.specs.Step.{Ready, Ended, Stepped, reduction, next}
+use Rattle.steps.specs.Steps.{letters, letters-same}
 use Rattle.steps.specs.Counts.{answer-length}
 
--- ---- a step: one of the four blocks, and a reduced unitary triple from which fewer steps are left
-pub record StepTo (t : Triple) (m : ℕ) (s : Triple) : Type 0 where
-  pub few : m < 4
-  pub same : Same (word (block m) · entries s) (entries t)
-  pub ready : Ready s
-  pub n-small : s .n < 8
-  pub nearer : left s < left t
-
--- it exists where k is over 0, and only there
-pub step-exists : (t : Triple) (k : ℕ) → Ready t → t .k ≡ suc k → StepTo t (power t) (next t)
-step-exists t k r e = record {
-  few = power-few t;
-  same = step-same t;
-  ready = next-ready (r .unitary);
-  n-small = next-n t;
-  nearer = left-next t k r e;
-}
-
-pub step-only : (t s : Triple) (m : ℕ) → StepTo t m s → 0 < t .k
-step-only t s m h = omega (arith, h .nearer, left-few t .1)
-
--- what a reduction answers
+-- ---- what a reduction answers
 pub reduction-ended : (t : Triple) → t .k ≡ 0 → reduction t ≡ Ended
 reduction-ended t e = ap (λ k. elim k [ zero ↦ Ended | suc k ↦ Stepped (power t) (next t) ]) e
 

@@ -22,8 +22,9 @@ use Rattle.exact.specs.Rotation.Vectors.{Vect}
 use Rattle.exact.specs.Rotation.Parity.{Par, par, none, sOf, pturnL, pturn, Seen, fewest, same-count}
 use Rattle.exact.specs.Unique.Tails.{e₁, tees-append}
 use Rattle.exact.specs.Unique.Normal.{normal-seen, normal-fewest}
-use Rattle.steps.specs.Residues.{odds, powerBy, itself, even-sum}
-use Rattle.steps.specs.Step.{Ready, block, power, power-few, falls, next, next-ready, step-same}
+use Rattle.steps.specs.Meaning.{powerBy, power}
+use Rattle.steps.specs.Residues.{odds, itself, even-sum}
+use Rattle.steps.specs.Step.{Ready, block, power-few, falls, next, next-ready, step-same}
 use Rattle.steps.specs.Step.{every, two-lower, next-falls, next-stays, then-falls}
 use Rattle.steps.specs.Closing.{closing, spell, lead, swaps, quarters, phase}
 use Rattle.steps.specs.Steps.{by-steps, letters, letters-end, letters-more, letters-same}
