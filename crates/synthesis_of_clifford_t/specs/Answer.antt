@@ -1,7 +1,7 @@
 -- From the letters of a reduced triple, normalised, to what job 4 promises. Assumes nothing.
 use mathlib.Core.Path.{_≡_, refl, sym, _∙_, ap, subst}
 use mathlib.Core.List.{List}
-use Prim.Native.Nat.{ℕ, _+_, _≤_}
+use Prim.Native.Nat.{ℕ, _+_, _≤_, _<_}
 use native.Mathlib.Nat.{zero-add}
 use native.Mathlib.Omega.{arith}
 use lib.IntN.{ℤ}
@@ -12,11 +12,10 @@ use mir.Syntax.{w64}
 use mir.Val.{SFits}
 use Rattle.exact.specs.Meaning.Matrix.{Matrix}
 use Rattle.exact.specs.Meaning.Word.{Letter, bytes, Spelled}
-use Rattle.exact.specs.Meaning.Normal.{NormalOf}
 use Rattle.exact.specs.Meaning.Triple.{Triple, entries}
-use Rattle.exact.specs.Meaning.Limits.{deepest}
-use Rattle.exact.specs.Meaning.Outcome.{none, _then_}
-use Rattle.exact.specs.Meaning.Lent.{lent, untouched, Writes}
+use Rattle.exact.specs.Meaning.Limits.{deepest, Accepted}
+use Rattle.exact.specs.Meaning.Outcome.{Rung, none, _then_}
+use Rattle.exact.specs.Meaning.Lent.{Lent, lent, untouched, Writes}
 use Rattle.exact.specs.Meaning.Refusals.{long, letter, room}
 use Rattle.exact.specs.Whole.Machine.{held}
 use Rattle.exact.specs.Matrices.Same.{Same-sym, Same-trans}
@@ -37,13 +36,14 @@ use Rattle.normal_form.specs.Ways.{word-passes}
 use Rattle.writing.specs.Put.{Put}
 use Rattle.synthesis_of_clifford_t.specs.declared.Synthesis.{Synthesis}
 use Rattle.steps.specs.Step.{Ready}
-use Rattle.steps.specs.Steps.{letters, letters-same}
+use Rattle.steps.specs.Steps.{letters, letters-same, steps}
 use Rattle.steps.specs.Counts.{letters-length}
-use Rattle.synthesis_of_clifford_t.specs.Meaning.{refused, counts, SynthesiseOutcome}
+use Rattle.synthesis_of_clifford_t.specs.Meaning.{Spelling, text, refused, counts, SpellingOf, SynthesiseOutcome}
+use Rattle.synthesis_of_clifford_t.specs.Counted.{steps-of, spelling-moved}
 
--- the normal word of a reduced triple, where there is room for it
+-- the normal word of a reduced triple and its steps, where there is room for the word
 abbrev pub AnsweredBy : Triple → List ℕ → Synthesis → List ℕ → Type 0
-AnsweredBy t old r new = Written bytes counts (NormalOf (entries t)) old refused (lent r new)
+AnsweredBy t old r new = Written text counts (SpellingOf (entries t)) old refused (lent r new)
 
 -- ---- the letters that stand at the start of a working buffer
 module _ (first : List ℕ) (u : List Letter) (work : List ℕ) (len : ℕ) (p : Put first 0 (bytes u) work len) where
@@ -60,41 +60,69 @@ module _ (first : List ℕ) (u : List Letter) (work : List ℕ) (len : ℕ) (p :
   word-long = sym len-is ∙ sym (ap length word-is)
 
 -- ---- normalised
-abbrev kept : Job3.Written → Synthesis
-kept r = record { refusal = r .refusal; bytes = r .bytes; tees = r .tees }
-
-module _ (t : Triple) (ready : Ready t) (few : t .k ≤ deepest) (old : List ℕ) (r : Job3.Written) (new : List ℕ) where
+module _ (t : Triple) (ready : Ready t) (small : t .n < 8) (few : t .k ≤ deepest) (old : List ℕ) (r : Job3.Written) (new : List ℕ) where
   -- neither too long nor with a byte that is no letter
   plain-passed : Passed (long (bytes (letters t)) then letter (bytes (letters t)) then none)
   plain-passed = word-passes (letters t) (omega (arith, letters-length t ready))
 
-  to-triple : (v : List Letter) → Spelled Normalises (bytes (letters t)) v → NormalOf (entries t) v
+  abbrev in-steps : List Letter → Spelling
+  in-steps v = record { letters = v; steps = steps t }
+
+  to-triple : (v : List Letter) → Spelled Normalises (bytes (letters t)) v → SpellingOf (entries t) (in-steps v)
   to-triple v s =
       let a = of-bytes (letters t) s in
-      record { normal = a .normal; same = Same-trans (Same-sym (letters-same t ready)) (a .same) }
+      record {
+        normal = record { normal = a .normal; same = Same-trans (Same-sym (letters-same t ready)) (a .same) };
+        counted = steps-of t ready small;
+      }
 
-  to-letters : (v : List Letter) → NormalOf (entries t) v → Spelled Normalises (bytes (letters t)) v
-  to-letters v n =
+  to-letters : (a : Spelling) → SpellingOf (entries t) a → Spelled Normalises (bytes (letters t)) (a .letters)
+  to-letters a s =
+      let n = s .normal in
       record { letters = letters t; spelled = refl; holds = record { normal = n .normal; same = Same-trans (letters-same t ready) (n .same) } }
 
-  at-letters : NormaliseOutcome (bytes (letters t)) old r new → AnsweredBy t old (kept r) new
-  at-letters o =
-      written-as bytes Normalised.counts counts (Spelled Normalises (bytes (letters t))) (NormalOf (entries t)) old Normalised.refused refused kept
-      (λ n p. refl) (λ v. refl) to-triple to-letters (lent r new)
-      (skip (untouched Normalised.refused old) (Writes bytes Normalised.counts (Spelled Normalises (bytes (letters t))) old)
-      (long (bytes (letters t)) then letter (bytes (letters t)) then none) (room bytes (Spelled Normalises (bytes (letters t))) old then none)
-      plain-passed (lent r new) o)
+  module _ (w : List ℕ) (e : w ≡ bytes (letters t)) (o : NormaliseOutcome w old r new) where
+    job-3 : Written bytes Normalised.counts (Spelled Normalises (bytes (letters t))) old Normalised.refused (lent r new)
+    job-3 =
+        skip (untouched Normalised.refused old) (Writes bytes Normalised.counts (Spelled Normalises (bytes (letters t))) old)
+        (long (bytes (letters t)) then letter (bytes (letters t)) then none) (room bytes (Spelled Normalises (bytes (letters t))) old then none)
+        plain-passed (lent r new) (subst (λ (x : List ℕ). NormaliseOutcome x old r new) e o)
 
-  pub normalised : (w : List ℕ) → w ≡ bytes (letters t) → NormaliseOutcome w old r new → AnsweredBy t old (kept r) new
-  normalised w e o = at-letters (subst (λ (x : List ℕ). NormaliseOutcome x old r new) e o)
+    pub no-room : (r .refusal ≡ 0 → ⊥) → (s : Synthesis) → s ≡ refused (r .refusal) 0 → AnsweredBy t old s new
+    no-room f s s-is = rw s-is (go job-3)
+      where
+        go : Written bytes Normalised.counts (Spelled Normalises (bytes (letters t))) old Normalised.refused (lent r new)
+            → AnsweredBy t old (refused (r .refusal) 0) new
+        go (Rung.given p h is) =
+            Rung.given 0 (record { v = in-steps (h .0 .v); answer = to-triple (h .0 .v) (h .0 .answer); more = h .0 .more }, refl)
+            (λ i. lent (refused (is i .handed .refusal) 0) (is i .buffer))
+        go (Rung.passed n x) = absurd (f (ap (λ (y : Lent Job3.Written). y .handed .refusal) (x .is)))
+
+    pub with-steps : r .refusal ≡ 0 → (i : ℕ) → i ≡ steps t
+        → AnsweredBy t old (record { refusal = Accepted; bytes = r .bytes; tees = r .tees; steps = i }) new
+    with-steps taken i i-is = go job-3
+      where
+        go : Written bytes Normalised.counts (Spelled Normalises (bytes (letters t))) old Normalised.refused (lent r new)
+            → AnsweredBy t old (record { refusal = Accepted; bytes = r .bytes; tees = r .tees; steps = i }) new
+        go (Rung.given p h is) = absurd (omega (arith, taken, ap (λ (y : Lent Job3.Written). y .handed .refusal) is))
+        go (Rung.passed n x) =
+            Rung.passed (λ p h. n p (record { v = h .0 .v .letters; answer = to-letters (h .0 .v) (h .0 .answer); more = h .0 .more }, h .1))
+            (record {
+              v = in-steps (x .v);
+              answer = to-triple (x .v) (x .answer);
+              is = λ j.
+                  let y = x .is j in
+                  lent (record { refusal = Accepted; bytes = y .handed .bytes; tees = y .handed .tees; steps = i-is j }) (y .buffer);
+            })
 
 -- ---- from the check to job 4
 module _ (k : ℤ) (n : ℕ) (z w : ZOmega) (old : List ℕ) (fits : SFits w64 k) (r : ℕ) (checked : CheckOutcome (held w64 k) z w r) where
   abbrev asked : Matrix
   asked = entries (given k n z w)
 
-  pub synthesise-refused : (r ≡ 0 → ⊥) → SynthesiseOutcome k n z w old (refused r 0) old
-  synthesise-refused = refused-as fits checked (untouched refused old) (Writes bytes counts (NormalOf asked) old) (room bytes (NormalOf asked) old then none)
+  pub synthesise-refused : (r ≡ 0 → ⊥) → (s : Synthesis) → s ≡ refused r 0 → SynthesiseOutcome k n z w old s old
+  synthesise-refused f s e =
+      rw e (refused-as fits checked (untouched refused old) (Writes text counts (SpellingOf asked) old) (room text (SpellingOf asked) old then none) f)
 
   module _ (yes : r ≡ 0) (t : DOmegaUnitary) (reduced : Answers (entries (given (held w64 k) n z w)) (triple t)) where
     a : Answers asked (triple t)
@@ -109,7 +137,6 @@ module _ (k : ℤ) (n : ℕ) (z w : ZOmega) (old : List ℕ) (fits : SFits w64 k
 
     pub synthesise-answered : (o : Synthesis) (new : List ℕ) → AnsweredBy (triple t) old o new → SynthesiseOutcome k n z w old o new
     synthesise-answered o new b =
-        taken-as fits checked (untouched refused old) (Writes bytes counts (NormalOf asked) old) (room bytes (NormalOf asked) old then none) yes (lent o new)
-        (written-as bytes counts counts (NormalOf (entries (triple t))) (NormalOf asked) old refused refused (λ x. x) (λ n p. refl) (λ v. refl)
-        (λ v h. record { normal = h .normal; same = Same-trans (Same-sym (a .same)) (h .same) })
-        (λ v h. record { normal = h .normal; same = Same-trans (a .same) (h .same) }) (lent o new) b)
+        taken-as fits checked (untouched refused old) (Writes text counts (SpellingOf asked) old) (room text (SpellingOf asked) old then none) yes (lent o new)
+        (written-as text counts counts (SpellingOf (entries (triple t))) (SpellingOf asked) old refused refused (λ x. x) (λ n p. refl) (λ v. refl)
+        (spelling-moved (a .same)) (spelling-moved (Same-sym (a .same))) (lent o new) b)

@@ -22,8 +22,9 @@ use Rattle.unitary.specs.Acts.{Good, turnedBack}
 use Rattle.unitary.specs.Checks.{bothTest}
 use Rattle.synthesis_of_clifford_t.specs.declared.Reduction as declared
 use Rattle.synthesis_of_clifford_t.specs.declared.Reduction.the-variants as variants
-use Rattle.steps.specs.Residues.{back, powerBy, fallsBy, powerBy-few}
-use Rattle.steps.specs.Step.{Ready, Reduction, Ended, Stepped, reduction, power, falls, next}
+use Rattle.steps.specs.Meaning.{powerBy, power}
+use Rattle.steps.specs.Residues.{back, fallsBy, powerBy-few}
+use Rattle.steps.specs.Step.{Ready, Reduction, Ended, Stepped, reduction, falls, next}
 use Rattle.steps.specs.Step.{explicit, fallen, stayed, falls-even, stays-once}
 use Rattle.steps.specs.Step.{fallen-divided, stayed-divided, next-falls, next-stays}
 use Rattle.steps.specs.Synthesised.{reduction-stepped}

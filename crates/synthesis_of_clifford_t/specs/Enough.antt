@@ -6,7 +6,7 @@ use native.Mathlib.Omega.{arith}
 use lib.IntN.{ℤ}
 use lib.ListN.{length}
 use Rattle.exact.specs.Meaning.Number.{Ω}
-use Rattle.exact.specs.Meaning.Word.{Letter, bytes}
+use Rattle.exact.specs.Meaning.Word.{Letter}
 use Rattle.exact.specs.Meaning.Normal.{NormalOf}
 use Rattle.exact.specs.Meaning.Triple.{entries}
 use Rattle.exact.specs.Meaning.Limits.{enough}
@@ -24,7 +24,7 @@ use Rattle.unitary.specs.Checks.{exponent-size}
 use Rattle.steps.specs.Synthesised.{reduce-ready}
 use Rattle.steps.specs.Counts.{answer-enough}
 use Rattle.synthesis_of_clifford_t.specs.declared.Synthesis.{Synthesis}
-use Rattle.synthesis_of_clifford_t.specs.Meaning.{refused, counts, asked, refusals, SynthesiseOutcome}
+use Rattle.synthesis_of_clifford_t.specs.Meaning.{text, refused, counts, SpellingOf, asked, refusals, SynthesiseOutcome}
 
 pub answer-short : (k : ℤ) (n : ℕ) (z w : Ω) → Taken k z w → (v : List Letter) → NormalOf (entries (handedIn k n z w)) v → length v ≤ enough
 answer-short k n z w taken v a =
@@ -38,12 +38,14 @@ answer-short k n z w taken v a =
 module _ (k : ℤ) (n : ℕ) (z w : ZOmega) (old : List ℕ) (r : Synthesis) (new : List ℕ) (o : SynthesiseOutcome k n z w old r new) where
   pub bytes-there : r .bytes ≤ length new
   bytes-there =
-      written-there bytes counts (NormalOf (asked k n z w old)) old refused (λ x. x .bytes) (λ n p. refl) (λ v. sym (bytes-length v))
+      written-there text counts (SpellingOf (asked k n z w old)) old refused (λ x. x .bytes) (λ n p. refl) (λ a. sym (bytes-length (a .letters)))
       (refusals k n z w old) (lent r new) o
 
   pub bytes-few : r .bytes ≤ enough
   bytes-few =
-      always (untouched refused old) (Writes bytes counts (NormalOf (asked k n z w old)) old)
+      always (untouched refused old) (Writes text counts (SpellingOf (asked k n z w old)) old)
       (λ (x : Lent Synthesis). x .handed .bytes ≤ enough) (λ m p. omega arith) (refusals k n z w old)
-      (λ h x y. rw (y .is) (answer-short k n (quad z) (quad w) (checks-taken k (quad z) (quad w) (h .0, (h .1 .0, (h .1 .1 .0, tt)))) (y .v) (y .answer)))
+      (λ h x y.
+      rw (y .is)
+      (answer-short k n (quad z) (quad w) (checks-taken k (quad z) (quad w) (h .0, (h .1 .0, (h .1 .1 .0, tt)))) (y .v .letters) (y .answer .normal)))
       (lent r new) o

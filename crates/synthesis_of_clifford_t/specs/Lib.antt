@@ -1,5 +1,6 @@
 -- Synthesis: what job 4 promises (`Meaning`), and how its functions meet the steps of crate `steps`.
 pub mod Meaning
+pub mod Counted
 pub mod Loop
 pub mod Unique
 pub mod Code

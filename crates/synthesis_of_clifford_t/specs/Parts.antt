@@ -22,12 +22,14 @@ use Rattle.exact.specs.Cases.Letters.{bytes-length}
 use Rattle.writing.specs.Codes.{bytes-append}
 use Rattle.synthesis_of_clifford_t.specs.declared.Reduction as declared
 use Rattle.synthesis_of_clifford_t.specs.declared.Reduction.the-variants as variants
-use Rattle.steps.specs.Step.{Stepped, reduction, block, power, power-few, next}
+use Rattle.steps.specs.Meaning.{power}
+use Rattle.steps.specs.Step.{Stepped, reduction, block, power-few, next}
 use Rattle.steps.specs.Closing.{closing}
-use Rattle.steps.specs.Steps.{left, left-next, letters}
+use Rattle.steps.specs.Steps.{left, left-next, letters, steps}
 use Rattle.steps.specs.Counts.{block-length}
 use Rattle.steps.specs.Synthesised.{reduction-stepped}
-use Rattle.synthesis_of_clifford_t.specs.Loop.{Progress, progress-start, progress-step, progress-room, progress-letters, progress-length}
+use Rattle.synthesis_of_clifford_t.specs.Loop.{Progress, progress-start, progress-step, progress-room}
+use Rattle.synthesis_of_clifford_t.specs.Loop.{progress-letters, progress-steps, progress-length}
 use Rattle.synthesis_of_clifford_t.specs.Code.{answerOf, good-ready}
 
 -- ---- a block, T^m·H with S for TT
@@ -111,31 +113,32 @@ module _ (buf : List ℕ) (a : ℕ) (h : a ≤ length buf) where
       none : drop (length buf - a) (drop a buf) ≡ []
       none = post-is a (length buf) buf h ∙ drop-length buf
 
--- ---- what the loop keeps: from t with the buffer old to u, with the letters so far in buf
-pub record Writing (old : List ℕ) (t : DOmegaUnitary) (buf : List ℕ) (u : DOmegaUnitary) (len : ℕ) : Type 0 where
+-- ---- what the loop keeps: from t with the buffer old to u in so many steps, with the letters so far in buf
+pub record Writing (old : List ℕ) (t : DOmegaUnitary) (buf : List ℕ) (u : DOmegaUnitary) (len count : ℕ) : Type 0 where
   pub written : List Letter
-  pub count : ℕ
   pub progress : Progress (triple t) (triple u) written count
   pub few : t .k ≤ deepest
   pub room : 372 ≤ length old
   pub put : Put old 0 (bytes written) buf len
 
-pub writing-start : (old : List ℕ) (t : DOmegaUnitary) → Good t → t .k ≤ deepest → 372 ≤ length old → Writing old t old t 0
+pub writing-start : (old : List ℕ) (t : DOmegaUnitary) → Good t → t .k ≤ deepest → 372 ≤ length old → Writing old t old t 0 0
 writing-start old t g k l = record {
   written = [];
-  count = 0;
   progress = progress-start (triple t) (good-ready g) (g .n-small);
   few = k;
   room = l;
   put = put-none old 0;
 }
 
-module _ {old : List ℕ} {t : DOmegaUnitary} {buf : List ℕ} {u : DOmegaUnitary} {len : ℕ} (w : Writing old t buf u len) where
+module _ {old : List ℕ} {t : DOmegaUnitary} {buf : List ℕ} {u : DOmegaUnitary} {len count : ℕ} (w : Writing old t buf u len count) where
   pub still-good : Good u
   still-good = let p = w .progress in record { unitary = p .ready .unitary; reduced = p .ready .reduced; n-small = p .n-small }
 
   pub still-few : u .k ≤ deepest
   still-few = omega (arith, w .progress .k-less, w .few)
+
+  pub count-fits : Fits w64 (count + 1)
+  count-fits = record { fits = omega (arith, w .progress .few, w .few) }
 
   fits-most : length (w .written) ≤ 360
   fits-most = omega (arith, w .progress .room, w .few)
@@ -215,10 +218,9 @@ module _ {old : List ℕ} {t : DOmegaUnitary} {buf : List ℕ} {u : DOmegaUnitar
 
       pub step-writing : (rest : List ℕ) (r : ℕ)
           → Put (free buf len) 0 (bytes (block m)) rest r
-          → Writing old t (filled buf len rest) s (len + r)
+          → Writing old t (filled buf len rest) s (len + r) (count + 1)
       step-writing rest r p = record {
         written = w .written ++ block m;
-        count = suc (w .count);
         progress = rw (s-is, m-is) (progress-step (w .progress) (u .k - 1) k-is);
         few = w .few;
         room = w .room;
@@ -232,6 +234,9 @@ module _ {old : List ℕ} {t : DOmegaUnitary} {buf : List ℕ} {u : DOmegaUnitar
 
     few-letters : length (closing (triple u)) ≤ 12
     few-letters = progress-length (w .progress) none .1
+
+    pub end-steps : count ≡ steps (triple t)
+    end-steps = progress-steps (w .progress) none
 
     pub end-room : length (closing (triple u)) ≤ length (free buf len)
     end-room = omega (arith, free-length buf len len-inside, buf-length, w .room, len-is, fits-most, few-letters)

@@ -10,11 +10,12 @@ ghost use Rattle.ring.specs.Number.{Small};
 ghost use Rattle.unitary.specs.Meaning.{triple};
 ghost use Rattle.unitary.specs.Acts.{Good};
 ghost use Rattle.writing.specs.Put.{Put};
-ghost use Rattle.steps.specs.Residues.{bitShift, bitCount, powerBy, fallsBy};
+ghost use Rattle.steps.specs.Meaning.{bitShift, powerBy};
+ghost use Rattle.steps.specs.Residues.{bitCount, fallsBy};
 ghost use Rattle.steps.specs.Step.{block, reduction};
 ghost use Rattle.steps.specs.Closing.{closing};
-ghost use Rattle.steps.specs.Steps.{letters};
-ghost use Rattle.synthesis_of_clifford_t.specs.Meaning.{SynthesiseOutcome};
+ghost use Rattle.steps.specs.Steps.{letters, steps};
+ghost use Rattle.synthesis_of_clifford_t.specs.Meaning.{refused, SynthesiseOutcome};
 ghost use Rattle.synthesis_of_clifford_t.specs.Code.{answerOf};
 ghost use Rattle.synthesis_of_clifford_t.specs.Closes.{signOf, closingBy, Closes};
 ghost use Rattle.synthesis_of_clifford_t.specs.Answer.{AnsweredBy};
@@ -22,11 +23,12 @@ use ring::ZOmega;
 use unitary::DOmegaUnitary;
 use writing::Ending;
 
-// What job 4 hands back: the refusal or 0, the bytes written and the T letters among them.
+// What job 4 hands back: the refusal or 0, the bytes written, the T letters among them, and the steps that were taken.
 pub struct Synthesis {
     pub refusal: u8,
     pub bytes: usize,
     pub tees: usize,
+    pub steps: usize,
 }
 
 const BIT_SHIFT: [u8; 16] = [0, 0, 1, 0, 2, 0, 1, 3, 3, 3, 0, 2, 2, 1, 0, 0];
@@ -194,21 +196,42 @@ fn write_closing(rest: &mut [u8], t: DOmegaUnitary) -> usize
 
 // ---- job 4
 
-// The letters that a reduced triple is taken apart into, from the start of a working buffer; their number is handed back.
-fn decompose_domega_unitary(t: DOmegaUnitary, work: &mut [u8]) -> usize
+// How many letters were put, and in how many steps.
+struct Decomposed {
+    len: usize,
+    steps: usize,
+}
+
+// The letters that a reduced triple is taken apart into, from the start of a working buffer.
+fn decompose_domega_unitary(t: DOmegaUnitary, work: &mut [u8]) -> Decomposed
     requires { ⌜ Good t ⌝ ∗ ⌜ t .k ≤ deepest ⌝ ∗ ⌜ 372 ≤ length (now work) ⌝ }
-    ensures { λ r. ⌜ Put (now (work .entry)) 0 (bytes (letters (triple t))) (now (work .exit)) r ⌝ }
+    ensures { λ r. ⌜ Put (now (work .entry)) 0 (bytes (letters (triple t))) (now (work .exit)) (r .len) × (r .steps ≡ steps (triple t)) ⌝ }
 {
     let mut u = t;
     let mut len: usize = 0;
+    let mut steps: usize = 0;
     while u.k > 0 {
         let Reduction::Step(m, next) = reduce_denomexp(u) else {
-            return 0;
+            return Decomposed { len: 0, steps: 0 };
         };
         len += write_block(&mut work[len..], m);
+        steps += 1;
         u = next;
     }
-    len + write_closing(&mut work[len..], u)
+    len += write_closing(&mut work[len..], u);
+    Decomposed { len, steps }
+}
+
+// A refusal has no counts.
+fn none(refusal: u8) -> Synthesis
+    ensures { λ r. ⌜ r ≡ refused refusal 0 ⌝ }
+{
+    Synthesis {
+        refusal,
+        bytes: 0,
+        tees: 0,
+        steps: 0,
+    }
 }
 
 // The normal word of a reduced triple.
@@ -217,12 +240,17 @@ fn answer(t: DOmegaUnitary, buf: &mut [u8]) -> Synthesis
     ensures { λ r. ⌜ AnsweredBy (triple t) (now (buf .entry)) r (now (buf .exit)) ⌝ }
 {
     let mut work = [0u8; 384];
-    let len = decompose_domega_unitary(t, &mut work);
+    let d = decompose_domega_unitary(t, &mut work);
+    let len = d.len;
     let r = normal_form::normalise(&work[..len], buf);
+    if r.refusal != exact::ACCEPTED {
+        return none(r.refusal);
+    }
     Synthesis {
-        refusal: r.refusal,
+        refusal: exact::ACCEPTED,
         bytes: r.bytes,
         tees: r.tees,
+        steps: d.steps,
     }
 }
 
@@ -232,11 +260,7 @@ pub fn synthesise(k: i64, n: u8, z: ZOmega, w: ZOmega, buf: &mut [u8]) -> Synthe
 {
     let refusal = unitary::check(k, z, w);
     if refusal != exact::ACCEPTED {
-        return Synthesis {
-            refusal: refusal,
-            bytes: 0,
-            tees: 0,
-        };
+        return none(refusal);
     }
     let t = DOmegaUnitary {
         z: z,

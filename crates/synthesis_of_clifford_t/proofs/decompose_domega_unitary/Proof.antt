@@ -3,17 +3,17 @@
 use native.Mathlib.Omega.{arith}
 use Rattle.unitary.specs.Meaning.{triple}
 use Rattle.steps.specs.Steps.{left}
-use Rattle.synthesis_of_clifford_t.specs.Parts.{Writing, writing-start, still-good, still-few, len-inside, length-kept, block-fits, not-ended}
-use Rattle.synthesis_of_clifford_t.specs.Parts.{step-few, step-nearer, step-room, step-writing, end-room, end-fits, end-put}
+use Rattle.synthesis_of_clifford_t.specs.Parts.{Writing, writing-start, still-good, still-few, len-inside, length-kept, block-fits}
+use Rattle.synthesis_of_clifford_t.specs.Parts.{count-fits, not-ended, step-few, step-nearer, step-room, step-writing, end-room, end-fits, end-put, end-steps}
 use borrow.Author.Needs.{needs}
 use Rattle.synthesis_of_clifford_t.proofs.decompose_domega_unitary.Statement.{statement}
 use Rattle.synthesis_of_clifford_t.proofs.decompose_domega_unitary.Tie as tie
 
 abbrev Inv-loop : tie.InvT-loop
-Inv-loop work₀ u₀ len₀ work u len = Writing work₀ u₀ work u len
+Inv-loop work₀ u₀ len₀ steps₀ work u len steps = Writing work₀ u₀ work u len steps
 
 abbrev μ-loop : tie.MeasureT-loop
-μ-loop work₀ u₀ len₀ work u len = left (triple u)
+μ-loop work₀ u₀ len₀ steps₀ work u len steps = left (triple u)
 
 loop-holds : tie.Need-loop-holds Inv-loop μ-loop
 loop-holds c = search writing-start
@@ -48,6 +48,9 @@ write-block-requires c κs = search (step-few, step-room)
 add-len : tie.Need-add-len Inv-loop μ-loop
 add-len c = search block-fits
 
+add-steps : tie.Need-add-steps Inv-loop μ-loop
+add-steps c = search count-fits
+
 loop-less : tie.Need-loop-less Inv-loop μ-loop
 loop-less c = search step-nearer
 
@@ -66,14 +69,14 @@ part-write-closing-end c = omega arith
 write-closing-requires : tie.Need-write-closing-requires Inv-loop μ-loop
 write-closing-requires c κs = search (needs, still-good, end-room)
 
-add-result : tie.Need-add-result Inv-loop μ-loop
-add-result c = search end-fits
+add-len-2 : tie.Need-add-len-2 Inv-loop μ-loop
+add-len-2 c = search end-fits
 
 same-length-2 : tie.Need-same-length-2 Inv-loop μ-loop
 same-length-2 c = search length-kept
 
 returns-2 : tie.Need-returns-2 Inv-loop μ-loop
-returns-2 c = search end-put
+returns-2 c = (search end-put, search end-steps)
 
 pub decompose-domega-unitary-spec : {M : Type 1} → statement M
 decompose-domega-unitary-spec =
@@ -92,12 +95,13 @@ decompose-domega-unitary-spec =
     part-write-block-end
     write-block-requires
     add-len
+    add-steps
     loop-less
     loop-again
     sub-write-closing
     part-write-closing-start
     part-write-closing-end
     write-closing-requires
-    add-result
+    add-len-2
     same-length-2
     returns-2)
