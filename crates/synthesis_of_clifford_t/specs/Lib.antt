@@ -8,4 +8,5 @@ pub mod Closes
 pub mod Parts
 pub mod Answer
 pub mod Enough
+pub mod OneMatrix
 pub mod Useless

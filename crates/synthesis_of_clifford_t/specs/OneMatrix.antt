@@ -1,0 +1,86 @@
+-- Job 4's outcomes by the matrix alone: at most two steps for each reduced k, and how many exactly; and triples with one matrix, however they are
+-- written and whatever memory is lent, get the same word and the same numbers. Assumes nothing.
+use mathlib.Core.Path.{_≡_, sym, _∙_, ap}
+use mathlib.Core.List.{List}
+use Prim.Native.Nat.{ℕ, _-_, _*_, _≤_, _<_}
+use native.Mathlib.Omega.{arith}
+use lib.IntN.{ℤ}
+use lib.ListN.{take}
+use Rattle.exact.specs.Meaning.Number.{residue}
+use Rattle.exact.specs.Meaning.Matrix.{Same}
+use Rattle.exact.specs.Meaning.Triple.{Triple}
+use Rattle.exact.specs.Meaning.Limits.{Accepted}
+use Rattle.exact.specs.Meaning.Lent.{Lent, lent, over, untouched, Writes}
+use Rattle.exact.specs.Cases.Letters.{bytes-length}
+use Rattle.exact.specs.Algebra.Norm.{norm}
+use Rattle.exact.specs.Outcomes.Ladder.{accepted, always}
+use Rattle.exact.specs.Outcomes.Lent.{text-there}
+use Rattle.ring.specs.declared.ZOmega.{ZOmega}
+use Rattle.unitary.specs.Meaning.{Answers}
+use Rattle.steps.specs.Meaning.{Takes}
+use Rattle.steps.specs.Step.{Ready}
+use Rattle.steps.specs.Followed.{takes-few}
+use Rattle.steps.specs.Exactly.{none-at-0, takes-0001, takes-1010}
+use Rattle.synthesis_of_clifford_t.specs.declared.Synthesis.{Synthesis}
+use Rattle.synthesis_of_clifford_t.specs.Meaning.{Spelling, text, refused, counts, SpellingOf, asked, refusals, SynthesiseOutcome}
+use Rattle.synthesis_of_clifford_t.specs.Counted.{answer-ready, steps-from, spelling-moved, one-spelling}
+
+-- what is handed back, and the bytes that were written
+abbrev pub seen : Lent Synthesis → Synthesis × List ℕ
+seen j = (j .handed, take (j .handed .bytes) (j .buffer))
+
+module _ (k : ℤ) (n : ℕ) (z w : ZOmega) (old : List ℕ) (r : Synthesis) (new : List ℕ) (o : SynthesiseOutcome k n z w old r new) where
+  -- accepted, it is an answer
+  pub answer-there : r .refusal ≡ Accepted → Writes text counts (SpellingOf (asked k n z w old)) old (lent r new)
+  answer-there e =
+      accepted (untouched refused old) (Writes text counts (SpellingOf (asked k n z w old)) old) (λ (j : Lent Synthesis). j .handed .refusal ≡ Accepted)
+      (refusals k n z w old) ((λ p h. omega arith), ((λ p h. omega arith), ((λ p h. omega arith), ((λ p h. omega arith), tt)))) (lent r new) e o
+
+  pub seen-is : (y : Writes text counts (SpellingOf (asked k n z w old)) old (lent r new)) → seen (lent r new) ≡ (counts (y .v), text (y .v))
+  seen-is y =
+      ap seen (y .is)
+      ∙ (λ i. (counts (y .v), text-there (text (y .v)) old (counts (y .v) .bytes) (sym (bytes-length (y .v .letters))) i))
+
+  -- ---- t is the reduced triple
+  module _ (t : Triple) (a : Answers (asked k n z w old) t) where
+    ready : (s : Spelling) → SpellingOf (asked k n z w old) s → Ready t
+    ready s h = answer-ready (asked k n z w old) (s .letters) (h .normal .same) t a
+
+    takes : (s : Spelling) → SpellingOf (asked k n z w old) s → Takes (s .steps) t
+    takes s h = steps-from (asked k n z w old) (s .letters) (h .normal .same) (s .steps) (h .counted) t a
+
+    pub steps-few : r .steps ≤ 2 * t .k
+    steps-few =
+        always (untouched refused old) (Writes text counts (SpellingOf (asked k n z w old)) old) (λ (j : Lent Synthesis). j .handed .steps ≤ 2 * t .k)
+        (λ m p. omega arith) (refusals k n z w old)
+        (λ h j y. rw (y .is) (takes-few (y .v .steps) t (ready (y .v) (y .answer)) (takes (y .v) (y .answer)))) (lent r new) o
+
+    pub steps-at-0 : t .k ≡ 0 → r .steps ≡ 0
+    steps-at-0 e = omega (arith, steps-few)
+
+    module _ (e : r .refusal ≡ Accepted) (more : 0 < t .k) where
+      y : Writes text counts (SpellingOf (asked k n z w old)) old (lent r new)
+      y = answer-there e
+
+      counted : r .steps ≡ y .v .steps
+      counted = ap (λ (j : Lent Synthesis). j .handed .steps) (y .is)
+
+      pub steps-at-0001 : residue (norm (t .z)) ≡ 0b0001 → r .steps ≡ 2 * t .k - 1
+      steps-at-0001 f = counted ∙ takes-0001 (y .v .steps) t (ready (y .v) (y .answer)) (takes (y .v) (y .answer)) more f
+
+      pub steps-at-1010 : residue (norm (t .z)) ≡ 0b1010 → r .steps ≡ 2 * t .k - 2
+      steps-at-1010 f = counted ∙ takes-1010 (y .v .steps) t (ready (y .v) (y .answer)) (takes (y .v) (y .answer)) more f
+
+-- ---- two triples with one matrix
+module _ (k : ℤ) (n : ℕ) (z w : ZOmega) (old : List ℕ) (j : Lent Synthesis) (k′ : ℤ) (n′ : ℕ) (z′ w′ : ZOmega) (old′ : List ℕ) (j′ : Lent Synthesis) where
+  pub one-matrix : Same (asked k n z w old) (asked k′ n′ z′ w′ old′)
+      → SynthesiseOutcome k n z w old (j .handed) (j .buffer) → SynthesiseOutcome k′ n′ z′ w′ old′ (j′ .handed) (j′ .buffer)
+      → j .handed .refusal ≡ Accepted → j′ .handed .refusal ≡ Accepted
+      → seen j ≡ seen j′
+  one-matrix s o o′ e e′ =
+      let y = answer-there k n z w old (j .handed) (j .buffer) o e in
+      let y′ = answer-there k′ n′ z′ w′ old′ (j′ .handed) (j′ .buffer) o′ e′ in
+      seen-is k n z w old (j .handed) (j .buffer) o y
+      ∙ ap (λ (a : Spelling). (counts a, text a))
+      (one-spelling (asked k′ n′ z′ w′ old′) (y .v) (y′ .v) (spelling-moved s (y .v) (y .answer)) (y′ .answer))
+      ∙ sym (seen-is k′ n′ z′ w′ old′ (j′ .handed) (j′ .buffer) o′ y′)
