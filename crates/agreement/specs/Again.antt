@@ -8,12 +8,11 @@ use lib.IntN.{ℤ}
 use lib.ListN.{length, take}
 use lib.Seq.{length-take-le}
 use Rattle.exact.specs.Meaning.Word.{Letter, bytes}
-use Rattle.exact.specs.Meaning.Normal.{Normal, NormalOf, PhaseFree}
+use Rattle.exact.specs.Meaning.Normal.{Normal, PhaseFree}
 use Rattle.exact.specs.Meaning.Limits.{longest, Accepted}
 use Rattle.exact.specs.Meaning.Lent as Lent
-use Rattle.exact.specs.Meaning.Lent.{Lent, lent, over, untouched}
-use Rattle.exact.specs.Outcomes.Ladder.{accepted}
-use Rattle.exact.specs.Outcomes.Lent.{handed-same, bytes-same}
+use Rattle.exact.specs.Meaning.Lent.{lent, over}
+use Rattle.exact.specs.Outcomes.Lent.{handed-same}
 use Rattle.ring.specs.declared.ZOmega.{ZOmega}
 use Rattle.normal_form.specs.declared.Written.{Written}
 use Rattle.normal_form.specs.Meaning.{Normalises, DropsPhase, WordOutcome, NormaliseOutcome}
@@ -21,14 +20,14 @@ use Rattle.normal_form.specs.Again.{ComesOut, LeftAgain, normal-again, phase-fr
 use Rattle.normal_form.specs.Again.{phase-free-normalised, phase-free-twice}
 use Rattle.synthesis_of_clifford_t.specs.declared.Synthesis.{Synthesis}
 use Rattle.synthesis_of_clifford_t.specs.Meaning as Job4
-use Rattle.synthesis_of_clifford_t.specs.Meaning.{SynthesiseOutcome}
+use Rattle.synthesis_of_clifford_t.specs.Meaning.{SpellingOf, SynthesiseOutcome}
 use Rattle.synthesis_of_clifford_t.specs.Enough.{bytes-there, bytes-few}
-use Rattle.handed.specs.Meaning.{zOf, wOf}
+use Rattle.synthesis_of_clifford_t.specs.OneMatrix.{answer-there, seen-is}
+use Rattle.handed.specs.Meaning.{zOf, wOf, countsOf}
 use Rattle.dunrossel.specs.Meaning.Exports.{Writes, Synthesises}
 use Rattle.agreement.specs.Meaning.Agree.{handedOn}
 use Rattle.agreement.specs.Meaning.Exports.{Wrote, wrote, seen}
 use Rattle.agreement.specs.Calls.{ofNormalised, ofSynthesised}
-use Rattle.agreement.specs.Jobs.{written}
 use Rattle.agreement.specs.Agree.{word-there}
 
 -- what comes out of a job comes out of its export: refusal 0; place 0, the length and the T letters; the bytes, and those beyond as they were
@@ -50,24 +49,20 @@ module _ {p v : List Letter} (f : PhaseFree p v) (l : length p ≤ longest) (old
 -- ---- what job 4 wrote: never too long to be handed to job 3, which gives it back with the same counts
 module _ (k : ℤ) (n : ℕ) (z w : ZOmega) (old : List ℕ) (r : Synthesis) (new : List ℕ) (o : SynthesiseOutcome k n z w old r new)
     (e : r .refusal ≡ Accepted) where
-  answer-of : Lent.Writes bytes Job4.counts (NormalOf (Job4.asked k n z w old)) old (lent r new)
-  answer-of =
-      accepted (untouched Job4.refused old) (Lent.Writes bytes Job4.counts (NormalOf (Job4.asked k n z w old)) old)
-      (λ (x : Lent Synthesis). x .handed .refusal ≡ Accepted) (Job4.refusals k n z w old)
-      ((λ p h. omega arith), ((λ p h. omega arith), ((λ p h. omega arith), ((λ p h. omega arith), tt)))) (lent r new) e o
+  answer-of : Lent.Writes Job4.text Job4.counts (SpellingOf (Job4.asked k n z w old)) old (lent r new)
+  answer-of = answer-there k n z w old r new o e
 
-  bytes-written : take (r .bytes) new ≡ bytes (answer-of .v)
-  bytes-written =
-      ap₂ take (ap (λ (x : Synthesis). x .bytes) (handed-same (answer-of .is))) (bytes-same (answer-of .is)) ∙ written (answer-of .v) old
+  bytes-written : take (r .bytes) new ≡ Job4.text (answer-of .v)
+  bytes-written = ap (λ (s : Synthesis × List ℕ). s .1) (seen-is k n z w old r new o answer-of)
 
   pub synthesised-again : (old′ : List ℕ) → r .bytes ≤ length old′ → (r′ : Written) (new′ : List ℕ) → NormaliseOutcome (take (r .bytes) new) old′ r′ new′
       → lent r′ new′ ≡ handedOn (lent r (over (take (r .bytes) new) old′))
   synthesised-again old′ l r′ new′ o′ =
-      normal-again (answer-of .answer .normal) (omega (arith, size, bytes-few k n z w old r new o)) old′ (omega (arith, size)) r′ new′
+      normal-again (answer-of .answer .normal .normal) (omega (arith, size, bytes-few k n z w old r new o)) old′ (omega (arith, size)) r′ new′
       (subst (λ (t : List ℕ). NormaliseOutcome t old′ r′ new′) bytes-written o′)
       ∙ ap₂ (λ (x : Synthesis) (t : List ℕ). handedOn (lent x (over t old′))) (sym (handed-same (answer-of .is))) (sym bytes-written)
     where
-      size : r .bytes ≡ length (answer-of .v)
+      size : r .bytes ≡ length (answer-of .v .letters)
       size = ap (λ (x : Synthesis). x .bytes) (handed-same (answer-of .is))
 
 -- ---- twice
@@ -80,7 +75,8 @@ abbrev pub GivenBack : (List Letter → List Letter → Type 0) → Wrote → Ty
 GivenBack Next r =
     (old : List ℕ) → length (textOf r) ≤ length old → (r′ : Wrote) → Writes Next (textOf r) old r′ → r′ ≡ (r .0, (r .1 .0, over (textOf r) old))
 
-pub exports-synthesised-again : (k : ℤ) (n : ℕ) (zw : List ℤ) (old : List ℕ) (r : Wrote) → Synthesises k n zw old r → r .0 ≡ Accepted
+pub exports-synthesised-again : (k : ℤ) (n : ℕ) (zw : List ℤ) (old : List ℕ) (r : Wrote) → Synthesises countsOf k n zw old r
+    → r .0 ≡ Accepted
     → GivenBack Normalises r
 exports-synthesised-again k n zw old r x = subst (λ (y : Wrote). y .0 ≡ Accepted → GivenBack Normalises y) (sym (x .is)) of-job
   where

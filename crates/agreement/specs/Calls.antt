@@ -32,8 +32,8 @@ module _ {u : List Letter} (w : Within u) {old₁ old₂ : List ℕ} {first : Wr
   the-ten : matrix .1 .0 ≡ ten (job2 .matrix)
   the-ten = ap (λ (x : Made). x .1 .0) (b .multiplied .is)
 
-  handed-on : Synthesises (kOf (ten (job2 .matrix))) (nOf (ten (job2 .matrix))) (zwOf (ten (job2 .matrix))) old₂ second
-  handed-on = subst (λ (x : List ℤ). Synthesises (kOf x) (nOf x) (zwOf x) old₂ second) the-ten (b .synthesised)
+  handed-on : Synthesises countsOf (kOf (ten (job2 .matrix))) (nOf (ten (job2 .matrix))) (zwOf (ten (job2 .matrix))) old₂ second
+  handed-on = subst (λ (x : List ℤ). Synthesises countsOf (kOf x) (nOf x) (zwOf x) old₂ second) the-ten (b .synthesised)
 
   ways : BothWays u old₁ old₂ (b .normalised .job) job2 (handed-on .job)
   ways =

@@ -33,6 +33,8 @@ use Rattle.normal_form.specs.Meaning as Job3
 use Rattle.normal_form.specs.Meaning.{Normalises, NormaliseOutcome, wordRefusals}
 use Rattle.synthesis_of_clifford_t.specs.declared.Synthesis.{Synthesis}
 use Rattle.synthesis_of_clifford_t.specs.Meaning as Job4
+use Rattle.synthesis_of_clifford_t.specs.Meaning.{SpellingOf}
+use Rattle.synthesis_of_clifford_t.specs.Counted.{steps-moved, one-number}
 use Rattle.steps.specs.Synthesised.{word-enough}
 use Rattle.agreement.specs.Meaning.Demand3.{Within, Synthesises, BothWays, Agreed, Seen, seenFirst, seenSecond, OneOutcome}
 
@@ -108,12 +110,16 @@ module _ (u : List Letter) (w : Within u) where
     asked = entries (triple (m .matrix))
 
     job-4 : (old : List ℕ) (r : Synthesis) (new : List ℕ) → enough ≤ length old → Synthesises m old r new
-        → Writes bytes Job4.counts (NormalOf asked) old (lent r new)
+        → Writes Job4.text Job4.counts (SpellingOf asked) old (lent r new)
     job-4 old r new l o =
         let t = taken-checks (pos (m .matrix .k)) (quad (m .matrix .z)) (quad (m .matrix .w)) taken in
-        answered (untouched Job4.refused old) (Writes bytes Job4.counts (NormalOf asked) old)
-        (checks (pos (m .matrix .k)) (quad (m .matrix .z)) (quad (m .matrix .w)) also (room bytes (NormalOf asked) old then none))
-        (t .0, (t .1 .0, (t .1 .1 .0, (fits asked (a .same) old l, tt)))) (lent r new) o
+        answered (untouched Job4.refused old) (Writes Job4.text Job4.counts (SpellingOf asked) old)
+        (checks (pos (m .matrix .k)) (quad (m .matrix .z)) (quad (m .matrix .w)) also (room Job4.text (SpellingOf asked) old then none))
+        (t .0, (t .1 .0, (t .1 .1 .0, (has-room, tt)))) (lent r new) o
+      where
+        has-room : (p : ℕ) → TooMany Job4.text (SpellingOf asked) old × (p ≡ 0) → ⊥
+        has-room p h =
+            fits asked (a .same) old l p (record { v = h .0 .v .letters; answer = h .0 .answer .normal; more = h .0 .more }, h .1)
 
 -- ---- both ways
 module _ {u : List Letter} (w : Within u) {old₁ old₂ : List ℕ} {first : Lent Written} {matrix : FromGates} {second : Lent Synthesis} where
@@ -123,15 +129,20 @@ module _ {u : List Letter} (w : Within u) {old₁ old₂ : List ℕ} {first : Le
       let n = of-bytes u (x .answer) in
       let m = job-2 u w matrix (b .multiplied) in
       let y = job-4 u w matrix (m .answer) old₂ (second .handed) (second .buffer) (b .room₂) (b .synthesised) in
-      let s = Same-trans (Same-sym (y .answer .same)) (Same-trans (m .answer .same) (n .same)) in
-      let e : y .v ≡ x .v = unique (y .answer .normal) (n .normal) s in (
+      let v = y .answer .normal in
+      let s = Same-trans (Same-sym (v .same)) (Same-trans (m .answer .same) (n .same)) in
+      let e : y .v .letters ≡ x .v = unique (v .normal) (n .normal) s in (
         x .v,
         record {
           normal = n .normal;
           same = Same-sym (n .same);
           first-is = x .is;
           matrix-taken = m .taken;
-          second-is = y .is ∙ ap (λ (l : List Letter). lent (Job4.counts l) (over (bytes l) old₂)) e;
+          steps = y .v .steps;
+          counted = steps-moved (m .answer .same) (y .v .steps) (y .answer .counted);
+          second-is =
+              y .is
+              ∙ ap (λ (l : List Letter). lent (Job4.counts (record { letters = l; steps = y .v .steps })) (over (bytes l) old₂)) e;
         },
       )
 
@@ -150,8 +161,10 @@ seenOf v = record { refusal = Accepted; bytes = length v; tees = tees v; text = 
 first-seen : (v : List Letter) (old : List ℕ) (j : Lent Written) → j ≡ lent (Job3.counts v) (over (bytes v) old) → seenFirst j ≡ seenOf v
 first-seen v old j e = ap seenFirst e ∙ (λ i. record { refusal = Accepted; bytes = length v; tees = tees v; text = written v old i })
 
-second-seen : (v : List Letter) (old : List ℕ) (j : Lent Synthesis) → j ≡ lent (Job4.counts v) (over (bytes v) old) → seenSecond j ≡ seenOf v
-second-seen v old j e = ap seenSecond e ∙ (λ i. record { refusal = Accepted; bytes = length v; tees = tees v; text = written v old i })
+second-seen : (v : List Letter) (taken : ℕ) (old : List ℕ) (j : Lent Synthesis)
+    → j ≡ lent (Job4.counts (record { letters = v; steps = taken })) (over (bytes v) old)
+    → seenSecond j ≡ seenOf v
+second-seen v taken old j e = ap seenSecond e ∙ (λ i. record { refusal = Accepted; bytes = length v; tees = tees v; text = written v old i })
 
 module _ {u u′ : List Letter} (w : Within u) (w′ : Within u′) (s : Same (word u) (word u′)) {old₁ old₂ old₁′ old₂′ : List ℕ}
     {first first′ : Lent Written} {matrix matrix′ : FromGates} {second second′ : Lent Synthesis} where
@@ -164,9 +177,13 @@ module _ {u u′ : List Letter} (w : Within u) (w′ : Within u′) (s : Same (w
       let c = y .1 in
       let e : x .0 ≡ y .0 = one-word u u′ s (a .normal) (a .same) (c .normal) (c .same) in
       let first-of = first-seen (x .0) old₁ first (a .first-is) in
-      let second-of = second-seen (x .0) old₂ second (a .second-is) in
+      let second-of = second-seen (x .0) (a .steps) old₂ second (a .second-is) in
       record {
         first-same = first-of ∙ ap seenOf e ∙ sym (first-seen (y .0) old₁′ first′ (c .first-is));
         ways-same = first-of ∙ sym second-of;
-        second-same = second-of ∙ ap seenOf e ∙ sym (second-seen (y .0) old₂′ second′ (c .second-is));
+        second-same = second-of ∙ ap seenOf e ∙ sym (second-seen (y .0) (c .steps) old₂′ second′ (c .second-is));
+        steps-same =
+            ap (λ (j : Lent Synthesis). j .handed .steps) (a .second-is)
+            ∙ one-number (word u′) u′ (Same-of refl) (a .steps) (c .steps) (steps-moved s (a .steps) (a .counted)) (c .counted)
+            ∙ sym (ap (λ (j : Lent Synthesis). j .handed .steps) (c .second-is));
       }

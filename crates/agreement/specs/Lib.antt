@@ -8,5 +8,6 @@ pub mod Ways
 pub mod Unique
 pub mod Identity
 pub mod Again
+pub mod Steps
 pub mod Phase
 pub mod Enough

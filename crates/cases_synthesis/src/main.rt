@@ -24,6 +24,8 @@ fn case(label: &[u8], k: i64, n: u8, z: ZOmega, w: ZOmega, buf: &mut [u8]) {
     number(r.bytes as u64);
     text(b" t=");
     number(r.tees as u64);
+    text(b" steps=");
+    number(r.steps as u64);
     text(b" buffer=");
     text(buf);
     text(b"\n");
@@ -102,6 +104,27 @@ fn steps() {
         quad(-1, 1, 0, 2),
     );
     short(b"k=3, five steps", 3, 7, quad(1, 1, 1, 0), quad(2, 0, 0, 1));
+    short(
+        b"four steps, five T",
+        3,
+        5,
+        quad(-1, 2, 0, 1),
+        quad(0, 0, 1, 1),
+    );
+    short(
+        b"five steps, four T",
+        3,
+        0,
+        quad(0, 0, 2, 1),
+        quad(1, -1, 1, 0),
+    );
+    short(
+        b"the same at k=4, n=8",
+        4,
+        8,
+        quad(-1, 2, 1, 2),
+        quad(-1, 2, -1, 0),
+    );
 }
 
 fn room() {

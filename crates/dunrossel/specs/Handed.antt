@@ -29,7 +29,7 @@ use Rattle.view.specs.declared.Answer.{Answer}
 use Rattle.view.specs.Meaning.Outcome.{ViewOutcome}
 use Rattle.handed.specs.declared.Four.{Four}
 use Rattle.dunrossel.specs.Meaning.Exports.{Reduces, Multiplies, Views, Writes, Synthesises, Converts, argument, Multiplied, Inverted, Parted}
-use Rattle.handed.specs.Meaning.{zOf, wOf, ten, eightOf, counts, countsOf, countsIn, fourOf, fiveOf, listed}
+use Rattle.handed.specs.Meaning.{zOf, wOf, ten, eightOf, counts, countsIn, fourOf, fiveOf, listed}
 use Rattle.handed.specs.Numbers.{held-small}
 
 -- ---- triples: what was said of the numbers read back is said of those handed in
@@ -46,9 +46,11 @@ module _ (k : ℤ) {z w : ZOmega} (zw : List ℤ) (fits : SFits w64 k) (z-is : z
     pub views : (j : Answer) (out : List Float) → ViewOutcome (held w64 k) n z w j → out ≡ eightOf (j .view) → Views k n zw (j .refusal, out)
     views j out o e = record { job = j; outcome = as-given (λ k z w. ViewOutcome k n z w j) o; is = λ i. (j .refusal, e i) }
 
-    pub synthesises : (old new : List ℕ) (j : Synthesis) (out : List ℕ) → SynthesiseOutcome (held w64 k) n z w old j new → out ≡ countsOf j
-        → Synthesises k n zw old (j .refusal, (out, new))
-    synthesises old new j out o e =
+    pub synthesises : (numbers : Synthesis → List ℕ) (old new : List ℕ) (j : Synthesis) (out : List ℕ)
+        → SynthesiseOutcome (held w64 k) n z w old j new
+        → out ≡ numbers j
+        → Synthesises numbers k n zw old (j .refusal, (out, new))
+    synthesises numbers old new j out o e =
         record { job = lent j new; outcome = as-given (λ k z w. SynthesiseOutcome k n z w old j new) o; is = λ i. (j .refusal, (e i, new)) }
 
 -- ---- words

@@ -10,7 +10,6 @@ use lib.Seq.{length-take-le}
 use lib.Signed.{mag}
 use mir.Syntax.{w64}
 use Rattle.exact.specs.Meaning.Word.{tees, bytes}
-use Rattle.exact.specs.Meaning.Normal.{NormalOf}
 use Rattle.exact.specs.Meaning.Limits.{enough, Accepted}
 use Rattle.exact.specs.Meaning.Outcome.{Rung, Outcome, none, _then_}
 use Rattle.exact.specs.Meaning.Lent.{Lent, lent, over, untouched, Writes}
@@ -25,7 +24,7 @@ use Rattle.ring.specs.declared.ZOmega.{ZOmega}
 use Rattle.unitary.specs.Triples.{number}
 use Rattle.synthesis_of_clifford_t.specs.declared.Synthesis.{Synthesis}
 use Rattle.synthesis_of_clifford_t.specs.Meaning as Job4
-use Rattle.synthesis_of_clifford_t.specs.Meaning.{SynthesiseOutcome}
+use Rattle.synthesis_of_clifford_t.specs.Meaning.{SpellingOf, SynthesiseOutcome}
 use Rattle.synthesis_of_clifford_t.specs.Enough.{answer-short, bytes-there, bytes-few}
 use Rattle.record.specs.declared.Record.{Record}
 use Rattle.record.specs.Meaning.{numbers, ReadOutcome, WriteOutcome}
@@ -79,41 +78,46 @@ job4-of r old j new f o =
 
 -- ---- 376 bytes are enough
 module _ (x : Numbers) (taken : Taken (x .k) (x .z) (x .w)) where
-  pub has-room : (old : List ℕ) → enough ≤ length old → (p : ℕ) → TooMany bytes (NormalOf (asked x)) old × (p ≡ 0) → ⊥
+  pub has-room : (old : List ℕ) → enough ≤ length old → (p : ℕ) → TooMany Job4.text (SpellingOf (asked x)) old × (p ≡ 0) → ⊥
   has-room old l p h =
-      omega (arith, h .0 .more, bytes-length (h .0 .v), answer-short (x .k) (x .n) (x .z) (x .w) taken (h .0 .v) (h .0 .answer))
+      omega (
+        arith,
+        h .0 .more,
+        bytes-length (h .0 .v .letters),
+        answer-short (x .k) (x .n) (x .z) (x .w) taken (h .0 .v .letters) (h .0 .answer .normal),
+      )
 
 -- ---- the text of job 4's answer
 abbrev pub textOf : Synthesis → List ℕ → List ℕ
-textOf j new = answerText (j .refusal) (take (j .bytes) new) (j .tees)
+textOf j new = answerText (j .refusal) (take (j .bytes) new) (j .tees) (j .steps)
 
 module _ (x : Numbers) (old : List ℕ) (enough-there : enough ≤ length old) (out : List ℕ) where
   abbrev print : Lent Synthesis → Lent ℕ
   print j = printed out (textOf (j .handed) (j .buffer))
 
   behind : (j : Lent Synthesis) → Passed (checks (x .k) (x .z) (x .w))
-      → Outcome (untouched Job4.refused old) (Writes bytes Job4.counts (NormalOf (asked x)) old) (room bytes (NormalOf (asked x)) old then none) j
-      → Writes wordText wordSize (NormalOf (asked x)) out (print j)
+      → Outcome (untouched Job4.refused old) (Writes Job4.text Job4.counts (SpellingOf (asked x)) old) (room Job4.text (SpellingOf (asked x)) old then none) j
+      → Writes wordText wordSize (SpellingOf (asked x)) out (print j)
   behind j h o = record {
     v = y .v;
     answer = y .answer;
-    is = ap print (y .is) ∙ ap (λ w. printed out (answerText Accepted w (tees (y .v)))) word-there;
+    is = ap print (y .is) ∙ ap (λ w. printed out (answerText Accepted w (tees (y .v .letters)) (y .v .steps))) word-there;
   }
     where
-      y : Writes bytes Job4.counts (NormalOf (asked x)) old j
+      y : Writes Job4.text Job4.counts (SpellingOf (asked x)) old j
       y =
-          answered (untouched Job4.refused old) (Writes bytes Job4.counts (NormalOf (asked x)) old) (room bytes (NormalOf (asked x)) old then none)
+          answered (untouched Job4.refused old) (Writes Job4.text Job4.counts (SpellingOf (asked x)) old) (room Job4.text (SpellingOf (asked x)) old then none)
           (has-room x (checks-taken (x .k) (x .z) (x .w) h) old enough-there, tt) j o
 
-      word-there : take (length (y .v)) (over (bytes (y .v)) old) ≡ bytes (y .v)
-      word-there = text-there (bytes (y .v)) old (length (y .v)) (sym (bytes-length (y .v)))
+      word-there : take (length (y .v .letters)) (over (bytes (y .v .letters)) old) ≡ bytes (y .v .letters)
+      word-there = text-there (bytes (y .v .letters)) old (length (y .v .letters)) (sym (bytes-length (y .v .letters)))
 
   module _ (j : Synthesis) (new : List ℕ) (o : Job4Of x old j new) where
     pub numbers-outcome : NumbersOutcome x out (print (lent j new))
     numbers-outcome =
-        carry (untouched Job4.refused old) (Writes bytes Job4.counts (NormalOf (asked x)) old) (refused out)
-        (Writes wordText wordSize (NormalOf (asked x)) out) print
-        (λ n p. refl) (checks (x .k) (x .z) (x .w)) (room bytes (NormalOf (asked x)) old then none) none behind (lent j new) o
+        carry (untouched Job4.refused old) (Writes Job4.text Job4.counts (SpellingOf (asked x)) old) (refused out)
+        (Writes wordText wordSize (SpellingOf (asked x)) out) print
+        (λ n p. refl) (checks (x .k) (x .z) (x .w)) (room Job4.text (SpellingOf (asked x)) old then none) none behind (lent j new) o
 
     -- what is handed back as written is there, and not too long
     pub there : j .bytes ≤ length new
@@ -125,15 +129,15 @@ module _ (x : Numbers) (old : List ℕ) (enough-there : enough ≤ length old) (
     pub taken-there : j .bytes ≡ length (take (j .bytes) new)
     taken-there = sym (length-take-le (j .bytes) new there)
 
-    pub printed-is : (size : ℕ) (out′ : List ℕ) → WriteOutcome (j .refusal) (take (j .bytes) new) (j .tees) out out′ size
+    pub printed-is : (size : ℕ) (out′ : List ℕ) → WriteOutcome (j .refusal) (take (j .bytes) new) (j .tees) (j .steps) out out′ size
         → NumbersOutcome x out (lent size out′)
     printed-is size out′ w = subst (NumbersOutcome x out) (sym (λ i. lent (w .is-size i) (w .is i))) numbers-outcome
 
 -- ---- after reading
 module _ (s old : List ℕ) (r : Record) (size : ℕ) (new : List ℕ) where
-  pub bench-malformed : ReadOutcome s r → (r .refusal ≡ 0 → ⊥) → WriteOutcome (r .refusal) [] 0 old new size → BenchOutcome s old size new
+  pub bench-malformed : ReadOutcome s r → (r .refusal ≡ 0 → ⊥) → WriteOutcome (r .refusal) [] 0 0 old new size → BenchOutcome s old size new
   bench-malformed (Rung.given p h e) f w =
-      Rung.given p h ((λ i. lent (w .is-size i) (w .is i)) ∙ ap (λ (x : Record). printed old (answerText (x .refusal) [] 0)) e)
+      Rung.given p h ((λ i. lent (w .is-size i) (w .is i)) ∙ ap (λ (x : Record). printed old (answerText (x .refusal) [] 0 0)) e)
   bench-malformed (Rung.passed n x) f w = absurd (f (x .taken))
 
   pub bench-read : ReadOutcome s r → r .refusal ≡ 0 → NumbersOutcome (numbers r) old (lent size new) → BenchOutcome s old size new
@@ -149,8 +153,8 @@ There l = l .handed ≤ length (l .buffer)
 
 pub bench-fits : (s old : List ℕ) (size : ℕ) (new : List ℕ) → BenchOutcome s old size new → size ≤ length new
 bench-fits s old size new =
-    always (refused old) (OfRecord s old) There (λ n p. printed-there old (answerText n [] 0)) (malformed s then none)
-    (λ h r x. always (refused old) (Writes wordText wordSize (NormalOf (asked (x .numbers))) old) There (λ n p. printed-there old (answerText n [] 0))
+    always (refused old) (OfRecord s old) There (λ n p. printed-there old (answerText n [] 0 0)) (malformed s then none)
+    (λ h r x. always (refused old) (Writes wordText wordSize (SpellingOf (asked (x .numbers))) old) There (λ n p. printed-there old (answerText n [] 0 0))
     (checks (x .numbers .k) (x .numbers .z) (x .numbers .w)) (λ g l y. rw (y .is) (printed-there old (wordText (y .v)))) r
     (x .outcome)) (lent size new)
 

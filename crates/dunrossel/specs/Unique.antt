@@ -5,14 +5,13 @@ use mathlib.Core.List.{List}
 use Prim.Native.Nat.{ℕ}
 use lib.IntN.{ℤ}
 use Rattle.exact.specs.Meaning.Word.{Letter}
-use Rattle.exact.specs.Meaning.Normal.{NormalOf}
 use Rattle.exact.specs.Meaning.Outcome.{none, _then_}
 use Rattle.exact.specs.Meaning.Lent as Lent
 use Rattle.exact.specs.Meaning.Lent.{lent}
 use Rattle.exact.specs.Meaning.Refusals.{checks, malformed}
 use Rattle.exact.specs.Meaning.Record.{Numbers}
 use Rattle.exact.specs.Outcomes.Ladder.{Only, one-outcome, one-handed}
-use Rattle.exact.specs.Outcomes.Places.{one-plain, one-normal}
+use Rattle.exact.specs.Outcomes.Places.{one-plain}
 use Rattle.exact.specs.Outcomes.Checked.{checks-one}
 use Rattle.exact.specs.Outcomes.Lent.{one-written}
 use Rattle.record.specs.RecordLaws.{record-once}
@@ -20,6 +19,9 @@ use Rattle.dunrossel.specs.Meaning.Bench.{refused, wordText, wordSize, a
 use Rattle.unitary.specs.Unique.{reduce-unique, matrix-unique}
 use Rattle.normal_form.specs.Unique.{outcome-unique}
 use Rattle.clifford.specs.Unique.{Product-unique, Inverse-unique, Split-unique}
+use Rattle.synthesis_of_clifford_t.specs.declared.Synthesis.{Synthesis}
+use Rattle.synthesis_of_clifford_t.specs.Meaning.{SpellingOf}
+use Rattle.synthesis_of_clifford_t.specs.Counted.{one-spelling}
 use Rattle.synthesis_of_clifford_t.specs.Unique.{synthesise-unique}
 use Rattle.circuit.specs.Meaning.{Edition}
 use Rattle.qasm.specs.Meaning.{WriteOutcome, ReadOutcome}
@@ -41,8 +43,9 @@ pub writes-unique : (Answer : List Letter → List Letter → Type 0) → ((u : 
     → Only (Writes Answer w old)
 writes-unique Answer one w old = one-handed _ _ (λ r s. outcome-unique one w old (r .handed) (r .buffer) (s .handed) (s .buffer))
 
-pub synthesises-unique : (k : ℤ) (n : ℕ) (zw : List ℤ) (old : List ℕ) → Only (Synthesises k n zw old)
-synthesises-unique k n zw old = one-handed _ _ (λ r s. synthesise-unique k n (zOf zw) (wOf zw) old (r .handed) (r .buffer) (s .handed) (s .buffer))
+pub synthesises-unique : (numbers : Synthesis → List ℕ) (k : ℤ) (n : ℕ) (zw : List ℤ) (old : List ℕ) → Only (Synthesises numbers k n zw old)
+synthesises-unique numbers k n zw old =
+    one-handed _ _ (λ r s. synthesise-unique k n (zOf zw) (wOf zw) old (r .handed) (r .buffer) (s .handed) (s .buffer))
 
 pub circuit-unique : (e : Edition) (w old : List ℕ) → Only (Converts (WriteOutcome e w old))
 circuit-unique e w old = one-handed _ _ (λ r s. write-unique old r s e w)
@@ -62,8 +65,8 @@ parted-unique x = one-handed _ _ (Split-unique (argument x))
 -- ---- the bench program
 one-numbers : (x : Numbers) (old : List ℕ) → Only (NumbersOutcome x old)
 one-numbers x old =
-    one-outcome (refused old) (Lent.Writes wordText wordSize (NormalOf (asked x)) old) (checks (x .k) (x .z) (x .w)) (checks-one (x .k) (x .z) (x .w))
-    (λ h. one-written wordText wordSize (NormalOf (asked x)) old (one-normal (asked x)))
+    one-outcome (refused old) (Lent.Writes wordText wordSize (SpellingOf (asked x)) old) (checks (x .k) (x .z) (x .w)) (checks-one (x .k) (x .z) (x .w))
+    (λ h. one-written wordText wordSize (SpellingOf (asked x)) old (one-spelling (asked x)))
 
 one-record : (s old : List ℕ) → Only (OfRecord s old)
 one-record s old r t x y =

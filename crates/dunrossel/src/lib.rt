@@ -7,6 +7,7 @@ ghost use Rattle.dunrossel.specs.Meaning.Exports.{Reduces, Multiplies, V
 ghost use Rattle.dunrossel.specs.Meaning.Exports.{Writes, Synthesises, Converts};
 ghost use Rattle.dunrossel.specs.Meaning.Exports.{Multiplied, Inverted, Parted};
 ghost use Rattle.dunrossel.specs.Meaning.Bench.{NumbersOutcome, BenchOutcome};
+ghost use Rattle.handed.specs.Meaning.{countsOf, stepsOf};
 ghost use Rattle.record.specs.Meaning.{numbers};
 ghost use Rattle.normal_form.specs.Meaning.{Normalises, DropsPhase};
 ghost use Rattle.circuit.specs.Meaning.{two, three};
@@ -104,12 +105,29 @@ pub extern "C" fn dunrossel_synthesise(
     buf: &mut [u8],
     out: &mut [u64; 3],
 ) -> u8
-    ensures { λ r. ⌜ Synthesises k n (now (zw .entry)) (now (buf .entry)) (r, (now (out .exit), now (buf .exit))) ⌝ }
+    ensures { λ r. ⌜ Synthesises countsOf k n (now (zw .entry)) (now (buf .entry)) (r, (now (out .exit), now (buf .exit))) ⌝ }
 {
     let z = handed::z_of(zw);
     let w = handed::w_of(zw);
     let answer = synthesis_of_clifford_t::synthesise(k, n, z, w, buf);
     handed::put_synthesis(answer, out);
+    answer.refusal
+}
+
+#[no_mangle]
+pub extern "C" fn dunrossel_synthesise_steps(
+    k: i64,
+    n: u8,
+    zw: &[i64; 8],
+    buf: &mut [u8],
+    out: &mut [u64; 4],
+) -> u8
+    ensures { λ r. ⌜ Synthesises stepsOf k n (now (zw .entry)) (now (buf .entry)) (r, (now (out .exit), now (buf .exit))) ⌝ }
+{
+    let z = handed::z_of(zw);
+    let w = handed::w_of(zw);
+    let answer = synthesis_of_clifford_t::synthesise(k, n, z, w, buf);
+    handed::put_steps(answer, out);
     answer.refusal
 }
 
@@ -159,7 +177,13 @@ fn answer_record(r: Record, word: &mut [u8], out: &mut [u8]) -> usize
     };
     let answer = synthesis_of_clifford_t::synthesise(r.k, r.n, z, w, word);
     let bytes = answer.bytes;
-    record::write(answer.refusal, &word[..bytes], answer.tees as u64, out)
+    record::write(
+        answer.refusal,
+        &word[..bytes],
+        answer.tees as u64,
+        answer.steps as u64,
+        out,
+    )
 }
 
 #[no_mangle]
@@ -168,7 +192,7 @@ pub extern "C" fn dunrossel_bench(text: &[u8], out: &mut [u8; 512]) -> usize
 {
     let r = record::read(text);
     if r.refusal != 0 {
-        return record::write(r.refusal, b"", 0, out);
+        return record::write(r.refusal, b"", 0, 0, out);
     }
     let mut word = exact::word_buffer();
     answer_record(r, &mut word, out)

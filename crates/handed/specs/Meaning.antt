@@ -29,12 +29,15 @@ ten t = pos (t .k) ∷ pos (t .n) ∷ t .z .a ∷ t .z .b ∷ t .z .c ∷ t .z .
 abbrev pub eightOf : View → List Float
 eightOf v = v .re00 ∷ v .im00 ∷ v .re01 ∷ v .im01 ∷ v .re10 ∷ v .im10 ∷ v .re11 ∷ v .im11 ∷ []
 
--- ---- words and circuits in lent bytes: place, bytes and T letters; the place of a synthesis is always 0
+-- ---- words and circuits in lent bytes: place, bytes and T letters; the place of a synthesis is always 0, and its steps may follow
 abbrev pub counts : Written → List ℕ
 counts r = r .place ∷ r .bytes ∷ r .tees ∷ []
 
 abbrev pub countsOf : Synthesis → List ℕ
 countsOf r = 0 ∷ r .bytes ∷ r .tees ∷ []
+
+abbrev pub stepsOf : Synthesis → List ℕ
+stepsOf r = 0 ∷ r .bytes ∷ r .tees ∷ r .steps ∷ []
 
 abbrev pub countsIn : Converted → List ℕ
 countsIn r = r .place ∷ r .bytes ∷ []

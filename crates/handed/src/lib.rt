@@ -1,7 +1,7 @@
 // What the exports are handed and hand back: numbers taken from arrays, and answers put into them.
 ghost use mathlib.Core.Path.{_≡_};
 ghost use Rattle.clifford.specs.Meaning.{axisNumber};
-ghost use Rattle.handed.specs.Meaning.{zOf, wOf, ten, eightOf, counts, countsOf, countsIn, fourOf, fiveOf, listed};
+ghost use Rattle.handed.specs.Meaning.{zOf, wOf, ten, eightOf, counts, countsOf, stepsOf, countsIn, fourOf, fiveOf, listed};
 ghost use Rattle.handed.specs.Numbers.{Wide};
 use clifford::Axis;
 use clifford::Clifford;
@@ -134,6 +134,17 @@ pub fn put_synthesis(answer: Synthesis, out: &mut [u64; 3])
     ensures { λ r. ⌜ now (out .exit) ≡ countsOf answer ⌝ }
 {
     *out = [0, answer.bytes as u64, answer.tees as u64];
+}
+
+pub fn put_steps(answer: Synthesis, out: &mut [u64; 4])
+    ensures { λ r. ⌜ now (out .exit) ≡ stepsOf answer ⌝ }
+{
+    *out = [
+        0,
+        answer.bytes as u64,
+        answer.tees as u64,
+        answer.steps as u64,
+    ];
 }
 
 pub fn put_pair(answer: qasm::Written, out: &mut [u64; 2])

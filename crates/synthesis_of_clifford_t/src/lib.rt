@@ -222,12 +222,11 @@ fn decompose_domega_unitary(t: DOmegaUnitary, work: &mut [u8]) -> Decomposed
     Decomposed { len, steps }
 }
 
-// A refusal has no counts.
-fn none(refusal: u8) -> Synthesis
-    ensures { λ r. ⌜ r ≡ refused refusal 0 ⌝ }
+fn refused(number: u8) -> Synthesis
+    ensures { λ r. ⌜ r ≡ refused number 0 ⌝ }
 {
     Synthesis {
-        refusal,
+        refusal: number,
         bytes: 0,
         tees: 0,
         steps: 0,
@@ -244,7 +243,7 @@ fn answer(t: DOmegaUnitary, buf: &mut [u8]) -> Synthesis
     let len = d.len;
     let r = normal_form::normalise(&work[..len], buf);
     if r.refusal != exact::ACCEPTED {
-        return none(r.refusal);
+        return refused(r.refusal);
     }
     Synthesis {
         refusal: exact::ACCEPTED,
@@ -260,7 +259,7 @@ pub fn synthesise(k: i64, n: u8, z: ZOmega, w: ZOmega, buf: &mut [u8]) -> Synthe
 {
     let refusal = unitary::check(k, z, w);
     if refusal != exact::ACCEPTED {
-        return none(refusal);
+        return refused(refusal);
     }
     let t = DOmegaUnitary {
         z: z,

@@ -17,7 +17,7 @@ use Rattle.normal_form.specs.Meaning as Job3
 use Rattle.normal_form.specs.Meaning.{NormaliseOutcome}
 use Rattle.synthesis_of_clifford_t.specs.declared.Synthesis.{Synthesis}
 use Rattle.synthesis_of_clifford_t.specs.Meaning as Job4
-use Rattle.synthesis_of_clifford_t.specs.Meaning.{SynthesiseOutcome}
+use Rattle.synthesis_of_clifford_t.specs.Meaning.{StepsOf, SynthesiseOutcome}
 
 -- a word over all six letters, not too long, none of whose endings is too deep
 pub record Within (u : List Letter) : Type 0 where
@@ -36,13 +36,15 @@ pub record BothWays (u : List Letter) (old₁ old₂ : List ℕ) (first : Lent W
   pub multiplied : MatrixOutcome (bytes u) matrix
   pub synthesised : Synthesises matrix old₂ (second .handed) (second .buffer)
 
--- all are accepted, and v is the answer of both ways
+-- all are accepted, and v is the answer of both ways; the second also has the steps of the word's matrix
 pub record Agreed (u v : List Letter) (old₁ old₂ : List ℕ) (first : Lent Written) (matrix : FromGates) (second : Lent Synthesis) : Type 0 where
   pub normal : Normal v
   pub same : Same (word v) (word u)
   pub first-is : first ≡ lent (Job3.counts v) (over (bytes v) old₁)
   pub matrix-taken : matrix .refusal ≡ Accepted
-  pub second-is : second ≡ lent (Job4.counts v) (over (bytes v) old₂)
+  pub steps : ℕ
+  pub counted : StepsOf (word u) steps
+  pub second-is : second ≡ lent (Job4.counts (record { letters = v; steps = steps })) (over (bytes v) old₂)
 
 -- ---- two words: what is handed back, and the bytes that were written
 pub record Seen : Type 0 where
@@ -62,3 +64,4 @@ pub record OneOutcome (first first′ : Lent Written) (second second′ : Lent S
   pub first-same : seenFirst first ≡ seenFirst first′
   pub ways-same : seenFirst first ≡ seenSecond second
   pub second-same : seenSecond second ≡ seenSecond second′
+  pub steps-same : second .handed .steps ≡ second′ .handed .steps

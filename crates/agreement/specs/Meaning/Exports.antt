@@ -10,6 +10,7 @@ use Rattle.exact.specs.Meaning.Normal.{Normal}
 use Rattle.exact.specs.Meaning.Limits.{enough, Accepted}
 use Rattle.exact.specs.Meaning.Lent.{over}
 use Rattle.normal_form.specs.Meaning.{Normalises}
+use Rattle.handed.specs.Meaning.{countsOf}
 use Rattle.dunrossel.specs.Meaning.Exports.{Writes, Multiplies, Synthesises}
 
 -- what a writing export leaves: the refusal; place, bytes and T letters; the lent bytes at the end
@@ -36,7 +37,7 @@ pub record BothCalls (u : List Letter) (old₁ old₂ : List ℕ) (first : Wrote
   pub room₂ : enough ≤ length old₂
   pub normalised : Writes Normalises (bytes u) old₁ first
   pub multiplied : Multiplies (bytes u) matrix
-  pub synthesised : Synthesises (kOf (matrix .1 .0)) (nOf (matrix .1 .0)) (zwOf (matrix .1 .0)) old₂ second
+  pub synthesised : Synthesises countsOf (kOf (matrix .1 .0)) (nOf (matrix .1 .0)) (zwOf (matrix .1 .0)) old₂ second
 
 -- accepted, with v written
 abbrev pub wrote : List Letter → List ℕ → Wrote

@@ -19,7 +19,7 @@ use Rattle.synthesis_of_clifford_t.specs.Meaning.{SynthesiseOutcome}
 use Rattle.qasm.specs.declared.Written.{Written as Converted}
 use Rattle.view.specs.declared.Answer.{Answer}
 use Rattle.view.specs.Meaning.Outcome.{ViewOutcome}
-use Rattle.handed.specs.Meaning.{zOf, wOf, ten, eightOf, counts, countsOf, countsIn, fourOf, fiveOf}
+use Rattle.handed.specs.Meaning.{zOf, wOf, ten, eightOf, counts, countsIn, fourOf, fiveOf}
 
 -- ---- triples: zw is z.a z.b z.c z.d w.a w.b w.c w.d; the ten are k, n, then zw
 -- job 1: the refusal, the ten
@@ -41,11 +41,11 @@ Writes Answer w old =
     HandsOn (λ (j : Lent Written). WordOutcome Answer w old (j .handed) (j .buffer))
     (λ (j : Lent Written). (j .handed .refusal, (counts (j .handed), j .buffer)))
 
--- job 4, whose place is always 0
-abbrev pub Synthesises : ℤ → ℕ → List ℤ → List ℕ → ℕ × (List ℕ × List ℕ) → Type 0
-Synthesises k n zw old =
+-- job 4, whose place is always 0; `numbers` are what is handed back of it, with the steps or without
+abbrev pub Synthesises : (Synthesis → List ℕ) → ℤ → ℕ → List ℤ → List ℕ → ℕ × (List ℕ × List ℕ) → Type 0
+Synthesises numbers k n zw old =
     HandsOn (λ (j : Lent Synthesis). SynthesiseOutcome k n (zOf zw) (wOf zw) old (j .handed) (j .buffer))
-    (λ (j : Lent Synthesis). (j .handed .refusal, (countsOf (j .handed), j .buffer)))
+    (λ (j : Lent Synthesis). (j .handed .refusal, (numbers (j .handed), j .buffer)))
 
 -- ---- circuits in lent bytes, and their letters: the refusal; place and bytes; the lent bytes at the end
 abbrev pub Converts : (Converted → List ℕ → Type 0) → ℕ × (List ℕ × List ℕ) → Type 0

@@ -36,8 +36,8 @@ slice-aggregate-normalise c = word-long _ (u (c .before .before)) _ _ (put (c .b
 normalise-requires : tie.Need-normalise-requires
 normalise-requires c κs = search needs
 
-none-requires : tie.Need-none-requires
-none-requires c κs = search needs
+refused-requires : tie.Need-refused-requires
+refused-requires c κs = search needs
 
 same-length : tie.Need-same-length
 same-length c = search needs
@@ -48,7 +48,7 @@ returns c =
     let d = m .before .before .before .before in
     let s = d .before .before .before in
     no-room (triple (s .args .t)) (good-ready (s .pre .0)) (s .pre .0 .n-small) (s .pre .1) (now (s .args .buf)) (m .normalise .result) _ _
-    (word-is _ (u d) _ _ (put d)) (m .normalise .ensures) (search needs) _ (c .none .ensures)
+    (word-is _ (u d) _ _ (put d)) (m .normalise .ensures) (search needs) _ (c .refused .ensures)
 
 same-length-2 : tie.Need-same-length-2
 same-length-2 c = search needs
@@ -70,7 +70,7 @@ answer-spec =
     array-share-prefix-work
     slice-aggregate-normalise
     normalise-requires
-    none-requires
+    refused-requires
     same-length
     returns
     same-length-2

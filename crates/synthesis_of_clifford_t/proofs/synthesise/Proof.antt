@@ -9,8 +9,8 @@ use Rattle.synthesis_of_clifford_t.proofs.synthesise.Tie as tie
 check-requires : tie.Need-check-requires
 check-requires c κs = search needs
 
-none-requires : tie.Need-none-requires
-none-requires c κs = search needs
+refused-requires : tie.Need-refused-requires
+refused-requires c κs = search needs
 
 returns : tie.Need-returns
 returns c = search synthesise-refused
@@ -42,7 +42,7 @@ synthesise-spec =
     tie.close
     (tie.spec
     check-requires
-    none-requires
+    refused-requires
     returns
     cast-t10
     reduce-denomexp-requires
