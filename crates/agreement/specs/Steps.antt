@@ -1,6 +1,6 @@
 -- The steps over the exports: dunrossel_synthesise_steps leaves what dunrossel_synthesise does, and the steps, 0 where it refuses and at most twice the
 -- reduced k; and calls with one matrix, however its triple is written, leave the same word and numbers. Assumes nothing.
-use mathlib.Core.Path.{_≡_, sym, _∙_, ap, subst}
+use mathlib.Core.Path.{_≡_, sym, _∙_, ap}
 use mathlib.Core.List.{List}
 use Prim.Native.Nat.{ℕ, _*_, _≤_}
 use native.Mathlib.Omega.{arith}
@@ -14,7 +14,6 @@ use Rattle.unitary.specs.Meaning.{given, Answers}
 use Rattle.synthesis_of_clifford_t.specs.declared.Synthesis.{Synthesis}
 use Rattle.synthesis_of_clifford_t.specs.Unique.{synthesise-unique}
 use Rattle.synthesis_of_clifford_t.specs.Useless.{kept-in-a-refusal}
-use Rattle.synthesis_of_clifford_t.specs.OneMatrix as Job4
 use Rattle.synthesis_of_clifford_t.specs.OneMatrix.{one-matrix, steps-few}
 use Rattle.handed.specs.Meaning.{zOf, wOf, countsOf, stepsOf}
 use Rattle.dunrossel.specs.Meaning.Exports.{Synthesises}

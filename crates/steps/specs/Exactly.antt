@@ -7,7 +7,7 @@ use Prim.Native.Nat.{ℕ, zero, suc, _-_, _*_, _^_, _<_}
 use native.Mathlib.Omega.{arith}
 use lib.Dec.{T, eqb}
 use lib.IntN.{ℤ, pos, _+ℤ_}
-use Rattle.exact.specs.Meaning.Number.{Ops, Quad, Ω, ints, omegas, addQ, negQ, mulQ, root2, root2^, odd, residue}
+use Rattle.exact.specs.Meaning.Number.{Ops, Quad, Ω, ints, omegas, addQ, root2, root2^, odd, residue}
 use Rattle.exact.specs.Meaning.Triple.{Triple, squares, crosses}
 use Rattle.exact.specs.Whole.Parity.{xr, xr-false, odd-add, odd-double}
 use Rattle.exact.specs.Algebra.Ring.{ints-laws, mul-add}
@@ -18,8 +18,8 @@ use Rattle.exact.specs.Matrices.Divided.{Divided}
 use Rattle.exact.specs.Matrices.Least.{modEight}
 use Rattle.steps.specs.Meaning.{power, Takes}
 use Rattle.steps.specs.Residues.{odds, back, classOf, implies, everywhere, everywhere-at, classBy, class-is, even-power}
-use Rattle.steps.specs.Step.{Ready, falls, next, next-ready, explicit, fallen, fallen-divided, next-falls, next-stays}
-use Rattle.steps.specs.Step.{sums, sum-odds, classes, no-0000, not-1011, no-other, stays-0001, next-not-0001}
+use Rattle.steps.specs.Step.{Ready, falls, next, next-ready, explicit, fallen-divided, next-falls, next-stays}
+use Rattle.steps.specs.Step.{sums, sum-odds, classes, no-0000, not-1011, stays-0001, next-not-0001}
 use Rattle.steps.specs.Steps.{by-steps, steps, steps-end, steps-more}
 use Rattle.steps.specs.Followed.{takes-is}
 

@@ -1,10 +1,9 @@
 -- The steps of a matrix: there is a number of them, a word's matrix has one alone, and the same matrix has the same. Assumes nothing.
-use mathlib.Core.Path.{_≡_, refl, subst}
+use mathlib.Core.Path.{refl, subst}
 use mathlib.Core.List.{List}
 use Prim.Native.Nat.{ℕ, _<_}
 use Rattle.exact.specs.Meaning.Matrix.{Matrix, Same}
 use Rattle.exact.specs.Meaning.Word.{Letter, word}
-use Rattle.exact.specs.Meaning.Normal.{NormalOf}
 use Rattle.exact.specs.Meaning.Triple.{Triple, entries}
 use Rattle.exact.specs.Matrices.Same.{Same-sym, Same-trans, Same-of}
 use Rattle.exact.specs.Matrices.Triples.{unitary-same, word-triple, word-unitary}

@@ -10,7 +10,7 @@ use Rattle.exact.specs.Meaning.Number.{residue}
 use Rattle.exact.specs.Meaning.Matrix.{Same}
 use Rattle.exact.specs.Meaning.Triple.{Triple}
 use Rattle.exact.specs.Meaning.Limits.{Accepted}
-use Rattle.exact.specs.Meaning.Lent.{Lent, lent, over, untouched, Writes}
+use Rattle.exact.specs.Meaning.Lent.{Lent, lent, untouched, Writes}
 use Rattle.exact.specs.Cases.Letters.{bytes-length}
 use Rattle.exact.specs.Algebra.Norm.{norm}
 use Rattle.exact.specs.Outcomes.Ladder.{accepted, always}
@@ -20,7 +20,7 @@ use Rattle.unitary.specs.Meaning.{Answers}
 use Rattle.steps.specs.Meaning.{Takes}
 use Rattle.steps.specs.Step.{Ready}
 use Rattle.steps.specs.Followed.{takes-few}
-use Rattle.steps.specs.Exactly.{none-at-0, takes-0001, takes-1010}
+use Rattle.steps.specs.Exactly.{takes-0001, takes-1010}
 use Rattle.synthesis_of_clifford_t.specs.declared.Synthesis.{Synthesis}
 use Rattle.synthesis_of_clifford_t.specs.Meaning.{Spelling, text, refused, counts, SpellingOf, asked, refusals, SynthesiseOutcome}
 use Rattle.synthesis_of_clifford_t.specs.Counted.{answer-ready, steps-from, spelling-moved, one-spelling}
