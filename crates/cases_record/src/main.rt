@@ -80,21 +80,24 @@ fn number(v: i64) {
 }
 
 fn answers() {
-    answer(0, b"H", 0);
-    answer(0, b"HTHTI", 2);
-    answer(5, b"HTHTI", 2);
-    answer(8, b"", 0);
+    answer(0, b"H", 0, 1);
+    answer(0, b"HTHTI", 2, 3);
+    answer(0, b"TI", 1, 0);
+    answer(0, b"I", 0, 18446744073709551615);
+    answer(5, b"HTHTI", 2, 3);
+    answer(8, b"", 0, 0);
+    answer(8, b"", 0, 10);
     let word = [b'W'; exact::ENOUGH];
-    answer(255, &word, 18446744073709551615);
-    answer(0, &word, 18446744073709551615);
+    answer(255, &word, 18446744073709551615, 18446744073709551615);
+    answer(0, &word, 18446744073709551615, 18446744073709551615);
 }
 
 // An answer's text, its size, and whether the bytes behind are as before.
-fn answer(refusal: u8, word: &[u8], t: u64)
+fn answer(refusal: u8, word: &[u8], t: u64, steps: u64)
     requires { ⌜ length (now word) ≤ enough ⌝ }
 {
     let mut out = [b'.'; 512];
-    let size = record::write(refusal, word, t, &mut out);
+    let size = record::write(refusal, word, t, steps, &mut out);
     print(&out, size);
 }
 

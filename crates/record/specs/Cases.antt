@@ -17,12 +17,13 @@ example-record : recordText (record { k = pos 1; n = 4; z = one; w = one })
 unfolding digits digitsOf
 example-record = refl
 
--- refusal=0, word=H, t=0, bytes=1, a line each
-example-answer : answerText 0 (72 ∷ []) 0
+-- refusal=0, word=H, t=0, bytes=1, steps=1, a line each
+example-answer : answerText 0 (72 ∷ []) 0 1
     ≡ 114 ∷ 101 ∷ 102 ∷ 117 ∷ 115 ∷ 97 ∷ 108 ∷ 61 ∷ 48 ∷ 10
     ∷ 119 ∷ 111 ∷ 114 ∷ 100 ∷ 61 ∷ 72 ∷ 10
     ∷ 116 ∷ 61 ∷ 48 ∷ 10
-    ∷ 98 ∷ 121 ∷ 116 ∷ 101 ∷ 115 ∷ 61 ∷ 49 ∷ 10 ∷ []
+    ∷ 98 ∷ 121 ∷ 116 ∷ 101 ∷ 115 ∷ 61 ∷ 49 ∷ 10
+    ∷ 115 ∷ 116 ∷ 101 ∷ 112 ∷ 115 ∷ 61 ∷ 49 ∷ 10 ∷ []
 unfolding digits digitsOf
 example-answer = refl
 

@@ -46,6 +46,6 @@ abbrev pub ReadOutcome : List ℕ → Record → Type 0
 ReadOutcome s r = Outcome refusedRecord (Reads s) (malformed s then none) r
 
 -- ---- writing: the answer's text, its size, and the bytes beyond as before
-pub record WriteOutcome (refusal : ℕ) (word : List ℕ) (t : ℕ) (old new : List ℕ) (size : ℕ) : Type 0 where
-  pub is-size : size ≡ length (answerText refusal word t)
-  pub is : new ≡ over (answerText refusal word t) old
+pub record WriteOutcome (refusal : ℕ) (word : List ℕ) (t steps : ℕ) (old new : List ℕ) (size : ℕ) : Type 0 where
+  pub is-size : size ≡ length (answerText refusal word t steps)
+  pub is : new ≡ over (answerText refusal word t steps) old

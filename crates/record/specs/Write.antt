@@ -47,21 +47,21 @@ digits-few (suc k) n h = go (below-ten n) (λ l. digits-few k (n / 10) l)
     go (inl l) r = omega (arith, length-one n l)
     go (inr l) r = omega (arith, length-more n l, r (tenth (n / 10) (10 ^ suc k) (omega (arith, pow-suc 10 (suc k)))))
 
--- ---- a line: a name, a value, LF
-module _ (old : List ℕ) (at : ℕ) (name value : List ℕ) (room : at + length (name ++ (value ++ (10 ∷ []))) ≤ length old) where
-  all : at + length name + length value + 1 ≤ length old
-  all = omega (arith, length-append name (value ++ (10 ∷ [])), length-append value (10 ∷ []))
+-- ---- three texts in a row, as a line's name, value and LF: where they have room together, each has it behind the one before
+module _ (old : List ℕ) (at : ℕ) (a b c : List ℕ) (room : at + length (a ++ (b ++ c)) ≤ length old) where
+  all : at + length a + length b + length c ≤ length old
+  all = omega (arith, length-append a (b ++ c), length-append b c)
 
-  pub name-room : at + length name ≤ length old
-  name-room = omega (arith, all)
+  pub first-room : at + length a ≤ length old
+  first-room = omega (arith, all)
 
-  module _ (mid : List ℕ) (i : ℕ) (p : Written old at name mid i) where
-    pub value-room : i + length value ≤ length mid
-    value-room = omega (arith, all, written-length p)
+  module _ (mid : List ℕ) (i : ℕ) (p : Written old at a mid i) where
+    pub second-room : i + length b ≤ length mid
+    second-room = omega (arith, all, written-length p)
 
-    module _ (mid′ : List ℕ) (j : ℕ) (q : Written mid i value mid′ j) where
-      pub end-room : j + 1 ≤ length mid′
-      end-room = omega (arith, all, written-length p, written-length q)
+    module _ (mid′ : List ℕ) (j : ℕ) (q : Written mid i b mid′ j) where
+      pub third-room : j + length c ≤ length mid′
+      third-room = omega (arith, all, written-length p, written-length q)
 
-      pub line-written : (new : List ℕ) (k : ℕ) → Written mid′ j (10 ∷ []) new k → Written old at (name ++ (value ++ (10 ∷ []))) new k
-      line-written new k r = written-both p (written-both q r)
+      pub row-written : (new : List ℕ) (k : ℕ) → Written mid′ j c new k → Written old at (a ++ (b ++ c)) new k
+      row-written new k r = written-both p (written-both q r)

@@ -10,7 +10,7 @@ ghost use mathlib.Core.Path.{_≡_};
 ghost use Prim.Native.Nat.{_+_, _≤_};
 ghost use lib.ListN.{length};
 ghost use Rattle.exact.specs.Meaning.Limits.{enough, Record as Malformed};
-ghost use Rattle.exact.specs.Meaning.Record.{answerLines};
+ghost use Rattle.exact.specs.Meaning.Record.{answerLines, countLines};
 ghost use Rattle.record.specs.Meaning.{refusedRecord, ReadOutcome, WriteOutcome};
 ghost use Rattle.record.specs.Longest.{longestRecord};
 ghost use Rattle.lent.specs.Written.{Written};
@@ -115,23 +115,32 @@ pub fn read(s: &[u8]) -> Record
     }
 }
 
-fn answer(refusal: u8, word: &[u8], t: u64, out: &mut [u8]) -> usize
-    requires { ⌜ (length (now word) ≤ enough) × (512 ≤ length (now out)) ⌝ }
-    ensures { λ r. ⌜ Written (now (out .entry)) 0 (answerLines refusal (now (word .entry)) t) (now (out .exit)) r ⌝ }
+// The lines of the three counts, from a place on.
+fn counts(out: &mut [u8], at: usize, t: u64, bytes: u64, steps: u64) -> usize
+    requires { ⌜ at + length (countLines t bytes steps) ≤ length (now out) ⌝ }
+    ensures { λ r. ⌜ Written (now (out .entry)) at (countLines t bytes steps) (now (out .exit)) r ⌝ }
+{
+    let second = text::number_line(out, at, b"t=", t);
+    let third = text::number_line(out, second, b"bytes=", bytes);
+    text::number_line(out, third, b"steps=", steps)
+}
+
+fn answer(refusal: u8, word: &[u8], t: u64, steps: u64, out: &mut [u8]) -> usize
+    requires { ⌜ 0 + length (answerLines refusal (now word) t steps) ≤ length (now out) ⌝ }
+    ensures { λ r. ⌜ Written (now (out .entry)) 0 (answerLines refusal (now (word .entry)) t steps) (now (out .exit)) r ⌝ }
 {
     let second = text::number_line(out, 0, b"refusal=", refusal as u64);
     let third = text::bytes_line(out, second, b"word=", word);
-    let fourth = text::number_line(out, third, b"t=", t);
-    text::number_line(out, fourth, b"bytes=", word.len() as u64)
+    counts(out, third, t, word.len() as u64, steps)
 }
 
-// The answer's text from the start of `out`, and its size; when refused the word is empty, and both counts are 0.
-pub fn write(refusal: u8, word: &[u8], t: u64, out: &mut [u8]) -> usize
+// The answer's text from the start of `out`, and its size; when refused the word is empty, and all three counts are 0.
+pub fn write(refusal: u8, word: &[u8], t: u64, steps: u64, out: &mut [u8]) -> usize
     requires { ⌜ (length (now word) ≤ enough) × (512 ≤ length (now out)) ⌝ }
-    ensures { λ r. ⌜ WriteOutcome refusal (now (word .entry)) t (now (out .entry)) (now (out .exit)) r ⌝ }
+    ensures { λ r. ⌜ WriteOutcome refusal (now (word .entry)) t steps (now (out .entry)) (now (out .exit)) r ⌝ }
 {
     if refusal == exact::ACCEPTED {
-        return answer(refusal, word, t, out);
+        return answer(refusal, word, t, steps, out);
     }
-    answer(refusal, b"", 0, out)
+    answer(refusal, b"", 0, 0, out)
 }

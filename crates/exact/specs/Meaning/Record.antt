@@ -60,15 +60,21 @@ pub record RightRecord (s : List ℕ) (x : Numbers) : Type 0 where
   pub z-in : RingInRange (x .z)
   pub w-in : RingInRange (x .w)
 
--- ---- the answer: refusal number, word, its T letters, its length; the names are refusal, word, t and bytes
-abbrev pub answerLines : ℕ → List ℕ → ℕ → List ℕ
-answerLines refusal word t =
+-- ---- the answer: refusal number, word, counts; the names are refusal, word, t, bytes and steps
+-- the word's T letters, its length, the steps of its synthesis
+abbrev pub countLines : ℕ → ℕ → ℕ → List ℕ
+countLines t bytes steps =
+    line (116 ∷ []) (digits t)
+    ++ (line (98 ∷ 121 ∷ 116 ∷ 101 ∷ 115 ∷ []) (digits bytes)
+    ++ line (115 ∷ 116 ∷ 101 ∷ 112 ∷ 115 ∷ []) (digits steps))
+
+abbrev pub answerLines : ℕ → List ℕ → ℕ → ℕ → List ℕ
+answerLines refusal word t steps =
     line (114 ∷ 101 ∷ 102 ∷ 117 ∷ 115 ∷ 97 ∷ 108 ∷ []) (digits refusal)
     ++ (line (119 ∷ 111 ∷ 114 ∷ 100 ∷ []) word
-    ++ (line (116 ∷ []) (digits t)
-    ++ line (98 ∷ 121 ∷ 116 ∷ 101 ∷ 115 ∷ []) (digits (length word))))
+    ++ countLines t (length word) steps)
 
--- when refused the word is empty, and both counts are 0
-abbrev pub answerText : ℕ → List ℕ → ℕ → List ℕ
-answerText zero word t = answerLines zero word t
-answerText (suc r) word t = answerLines (suc r) [] 0
+-- when refused the word is empty, and all three counts are 0
+abbrev pub answerText : ℕ → List ℕ → ℕ → ℕ → List ℕ
+answerText zero word t steps = answerLines zero word t steps
+answerText (suc r) word t steps = answerLines (suc r) [] 0 0
