@@ -52,10 +52,12 @@ module _ (k : ℤ) (n : ℕ) (zw : List ℤ) (old : List ℕ) (r : Wrote) (x : S
   exports-steps-few t a = omega (arith, steps-are, steps-few k n (zOf zw) (wOf zw) old (job .handed) (job .buffer) (x .outcome) t a)
 
 -- the refusal, the numbers with the steps among them, and the bytes that were written
-module _ {k k′ : ℤ} {n n′ : ℕ} {zw zw′ : List ℤ} {old old′ : List ℕ} {r r′ : Wrote} (x : Synthesises stepsOf k n zw old r)
-    (x′ : Synthesises stepsOf k′ n′ zw′ old′ r′) (e : r .0 ≡ Accepted) (e′ : r′ .0 ≡ Accepted) where
-  pub exports-one-matrix : Same (entries (given k n (zOf zw) (wOf zw))) (entries (given k′ n′ (zOf zw′) (wOf zw′))) → seen r ≡ seen r′
-  exports-one-matrix s =
+module _ (k k′ : ℤ) (n n′ : ℕ) (zw zw′ : List ℤ) (old old′ : List ℕ) (r r′ : Wrote) where
+  pub exports-one-matrix : Same (entries (given k n (zOf zw) (wOf zw))) (entries (given k′ n′ (zOf zw′) (wOf zw′)))
+      → Synthesises stepsOf k n zw old r → Synthesises stepsOf k′ n′ zw′ old′ r′
+      → r .0 ≡ Accepted → r′ .0 ≡ Accepted
+      → seen r ≡ seen r′
+  exports-one-matrix s x x′ e e′ =
       ap seen (x .is)
       ∙ ap (λ (y : Synthesis × List ℕ). (y .0 .refusal, (stepsOf (y .0), y .1)))
       (one-matrix k n (zOf zw) (wOf zw) old (x .job) k′ n′ (zOf zw′) (wOf zw′) old′ (x′ .job) s (x .outcome) (x′ .outcome)
