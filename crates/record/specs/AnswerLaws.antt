@@ -25,10 +25,6 @@ module _ (refusal : ℕ) (old : List ℕ) (fits : refusal < 256) (room : 512 ≤
         digits-few 19 steps (omega arith),
       ))
 
-  -- a refused call writes no word, and counts of 0
-  pub refused-room : 0 + length (answerLines refusal [] 0 0) ≤ length old
-  refused-room = lines-room [] 0 0 (lit≤ tt) (lit< tt) (lit< tt)
-
   -- ---- the outcome
   module _ (word : List ℕ) (t steps : ℕ) (new : List ℕ) (size : ℕ) where
     outcome : (s : List ℕ) → s ≡ answerText refusal word t steps → 0 + length s ≤ length old → Written old 0 s new size
@@ -45,8 +41,9 @@ module _ (refusal : ℕ) (old : List ℕ) (fits : refusal < 256) (room : 512 ≤
         go zero e = refl
         go (suc r) e = absurd (omega arith)
 
+    -- a refused call writes no word, and counts of 0, whatever it is given
     pub write-refused : (refusal ≡ 0 → ⊥) → Written old 0 (answerLines refusal [] 0 0) new size → WriteOutcome refusal word t steps old new size
-    write-refused n p = outcome (answerLines refusal [] 0 0) (go refusal n) refused-room p
+    write-refused n p = outcome (answerLines refusal [] 0 0) (go refusal n) (lines-room [] 0 0 (lit≤ tt) (lit< tt) (lit< tt)) p
       where
         go : (r : ℕ) → (r ≡ 0 → ⊥) → answerLines r [] 0 0 ≡ answerText r word t steps
         go zero n = absurd (n refl)

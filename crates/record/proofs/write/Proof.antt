@@ -1,11 +1,11 @@
 -- `write` meets its contract: the lines have room, and they are the text of `answerText`'s case. Assumes nothing.
-use Rattle.record.specs.AnswerLaws.{lines-room, refused-room, write-accepted, write-refused}
+use Rattle.record.specs.AnswerLaws.{lines-room, write-accepted, write-refused}
 use borrow.Author.Needs.{needs}
 use Rattle.record.proofs.write.Statement.{statement}
 use Rattle.record.proofs.write.Tie as tie
 
 answer-requires : tie.Need-answer-requires
-answer-requires c κs = search lines-room
+answer-requires c κs = search (needs, lines-room)
 
 same-length : tie.Need-same-length
 same-length c = search needs
@@ -17,7 +17,7 @@ slice-aggregate-answer : tie.Need-slice-aggregate-answer
 slice-aggregate-answer c = search needs
 
 answer-requires-2 : tie.Need-answer-requires-2
-answer-requires-2 c κs = search refused-room
+answer-requires-2 c κs = search (needs, lines-room)
 
 same-length-2 : tie.Need-same-length-2
 same-length-2 c = search needs
