@@ -19,6 +19,7 @@ u64 dunrossel_bench(const u8 *record, u64 len, u8 *out);
 u8 dunrossel_qasm2_write(const u8 *word, u64 len, u8 *buf, u64 room, u64 *out);
 u8 dunrossel_qasm3_write(const u8 *word, u64 len, u8 *buf, u64 room, u64 *out);
 u8 dunrossel_qasm_read(const u8 *text, u64 len, u8 *buf, u64 room, u64 *out);
+u8 dunrossel_synthesise_steps(i64 k, u8 n, const i64 *zw, u8 *buf, u64 room, u64 *out);
 
 static i64 sys(i64 n, i64 a, i64 b, i64 c, i64 d, i64 e) {
   register i64 r10 __asm__("r10") = d;
@@ -76,6 +77,7 @@ static u64 call(u64 job, const u64 *a) {
   case 10: return dunrossel_qasm2_write((u8 *)a[0], a[1], (u8 *)a[2], a[3], (u64 *)a[4]);
   case 11: return dunrossel_qasm3_write((u8 *)a[0], a[1], (u8 *)a[2], a[3], (u64 *)a[4]);
   case 12: return dunrossel_qasm_read((u8 *)a[0], a[1], (u8 *)a[2], a[3], (u64 *)a[4]);
+  case 13: return dunrossel_synthesise_steps((i64)a[0], (u8)a[1], (i64 *)a[2], (u8 *)a[3], a[4], (u64 *)a[5]);
   }
   end(3);
 }
@@ -145,7 +147,9 @@ static void stacks(void) {
   // H·T^a·H·T^b..: a triple that synthesis takes apart in many steps.
   for (int i = 0; i < 100; i++) word[i] = i % 2 ? 'T' : 'H';
   dunrossel_matrix(word, 100, numbers, out);
-  print("dunrossel_synthesise", taken(4, (u64[]){(u64)numbers[0], (u64)numbers[1], m + 16, t, 376, o}));
+  const u64 many[] = {(u64)numbers[0], (u64)numbers[1], m + 16, t, 376, o};
+  print("dunrossel_synthesise", taken(4, many));
+  print("dunrossel_synthesise_steps", taken(13, many));
   print("dunrossel_clifford_product", taken(5, (u64[]){c, c, m}));
   print("dunrossel_clifford_inverse", taken(6, (u64[]){c, m}));
   print("dunrossel_clifford_coset", taken(7, (u64[]){c, m}));

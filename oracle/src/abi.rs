@@ -1,6 +1,8 @@
 //! The library's exports, each called with guarded memory: what a call may write is filled with a pattern before,
 //! and looked at after. One wrong answer can be planted here, to see that it is found.
 
+use crate::exact::Matrix;
+use crate::inputs::{Triple, ENOUGH};
 use crate::library::{Library, Word, IN, LENT, OUT, PLACE};
 use std::cell::RefCell;
 
@@ -38,9 +40,10 @@ pub enum Job {
     Qasm2Write,
     Qasm3Write,
     QasmRead,
+    SynthesiseSteps,
 }
 
-pub const JOBS: [Job; 13] = [
+pub const JOBS: [Job; 14] = [
     Job::Reduce,
     Job::Matrix,
     Job::Normalise,
@@ -54,10 +57,22 @@ pub const JOBS: [Job; 13] = [
     Job::Qasm2Write,
     Job::Qasm3Write,
     Job::QasmRead,
+    Job::SynthesiseSteps,
 ];
 
+impl Job {
+    /// The faults whose answers are planted as a whole.
+    pub fn faults(self) -> &'static [Fault] {
+        match self {
+            Job::PhaseFree => &[Fault::Nothing, Fault::Identity, Fault::Phase, Fault::Room, Fault::Stale],
+            Job::SynthesiseSteps => &[Fault::Unreduced, Fault::More, Fault::Tees, Fault::Kept, Fault::Stale],
+            _ => &[],
+        }
+    }
+}
+
 /// The refusal number; one of the numbers; the first byte of the lent buffer; the first byte beyond the length;
-/// the byte after the lent memory; the whole answer of job 5.
+/// the byte after the lent memory; the whole answer of a faulty job.
 #[derive(Clone, Copy, PartialEq, Eq, Debug)]
 pub enum Part {
     Refusal,
@@ -68,18 +83,28 @@ pub enum Part {
     Whole(Fault),
 }
 
-/// What a faulty job 5 would answer: an empty tail written as nothing; an I behind a tail that has letters; a W left;
-/// an answer a byte too long taken for one that fits, its I not counted; the answer of the accepted call before.
+/// What a faulty job 5 would answer, or a faulty count of job 4's steps.
 #[derive(Clone, Copy, PartialEq, Eq, Debug)]
 pub enum Fault {
+    /// Job 5: an empty tail written as nothing.
     Nothing,
+    /// Job 5: an I behind a tail that has letters.
     Identity,
+    /// Job 5: a W left.
     Phase,
+    /// Job 5: an answer a byte too long taken for one that fits, its I not counted.
     Room,
+    /// Job 4: a step more for each exponent that is lowered before the first.
+    Unreduced,
+    /// Job 4: a step too many.
+    More,
+    /// Job 4: the T letters for steps.
+    Tees,
+    /// Job 4: steps in a refusal for want of room.
+    Kept,
+    /// The word, or the steps, of the accepted call before.
     Stale,
 }
-
-pub const FAULTS: [Fault; 5] = [Fault::Nothing, Fault::Identity, Fault::Phase, Fault::Room, Fault::Stale];
 
 struct State {
     library: Library,
@@ -89,7 +114,7 @@ struct State {
     plant: Option<Plant>,
     planted_on: Option<Vec<u8>>,
     calls: u64,
-    before: Option<Vec<u8>>,
+    before: Option<Written>,
 }
 
 thread_local! {
@@ -120,58 +145,98 @@ pub fn planted_on() -> Option<Vec<u8>> {
 }
 
 impl State {
-    /// The part to spoil in this call's answer, if any. A fault's calls are those that it answers otherwise.
-    fn turn(&mut self, job: Job, args: &[Word]) -> Option<Part> {
+    /// The part to spoil in this call's answer, which has so many numbers, if any. A fault's calls are those that it
+    /// answers otherwise.
+    fn turn(&mut self, job: Job, args: &[Word], many: usize) -> Option<Part> {
         let plant = self.plant.filter(|p| p.job == job)?;
         let wrong = match plant.part {
-            Part::Whole(fault) => Some(self.faulty(fault, args)?),
+            Part::Whole(fault) => Some(self.faulty(fault, job, args)?),
             _ => None,
         };
         self.calls += 1;
         if self.calls != plant.call {
             return None;
         }
-        if let Some(word) = wrong {
-            self.hand(&word);
+        if let Some(answer) = wrong {
+            self.hand(&answer, many);
         }
         Some(plant.part)
     }
 
-    /// The word that a faulty job 5 would hand back, where that is no right answer.
-    fn faulty(&mut self, fault: Fault, args: &[Word]) -> Option<Vec<u8>> {
-        let word = self.handed();
-        let accepted = self.result == 0;
-        let kept = word.strip_suffix(b"I");
-        let wrong = match fault {
-            Fault::Nothing if accepted => kept?.to_vec(),
-            Fault::Identity if accepted && kept.is_none() => [&word, b"I".as_slice()].concat(),
-            Fault::Phase if accepted => [kept.unwrap_or(&word), b"W"].concat(),
-            Fault::Room if self.result == 7 => self.with_a_byte_more(args).strip_suffix(b"I")?.to_vec(),
-            Fault::Stale if accepted => self.before.replace(word.clone())?,
-            _ => return None,
+    /// What a faulty job would hand back, where that is no right answer.
+    fn faulty(&mut self, fault: Fault, job: Job, args: &[Word]) -> Option<Written> {
+        let right = self.answer(job);
+        let wrong = match job {
+            Job::PhaseFree => Written::of(&self.faulty_word(fault, &right, args)?),
+            _ => Written { steps: self.faulty_steps(fault, &right, args)?, ..right.clone() },
         };
-        (wrong.len() <= self.lent && (!accepted || wrong != word)).then_some(wrong)
+        (wrong.word.len() <= self.lent && wrong != right).then_some(wrong)
     }
 
-    /// What job 5 hands back with a byte more room; its refusal without is then as it was.
-    fn with_a_byte_more(&mut self, args: &[Word]) -> Vec<u8> {
+    fn faulty_word(&mut self, fault: Fault, right: &Written, args: &[Word]) -> Option<Vec<u8>> {
+        let (word, accepted) = (&right.word, right.refusal == 0);
+        let kept = word.strip_suffix(b"I");
+        match fault {
+            Fault::Nothing if accepted => Some(kept?.to_vec()),
+            Fault::Identity if accepted && kept.is_none() => Some([word, b"I".as_slice()].concat()),
+            Fault::Phase if accepted => Some([kept.unwrap_or(word), b"W"].concat()),
+            Fault::Room if right.refusal == 7 => {
+                let longer = self.with_room(Job::PhaseFree, args, self.lent + 1).word;
+                Some(longer.strip_suffix(b"I")?.to_vec())
+            }
+            Fault::Stale if accepted => Some(self.before.replace(right.clone())?.word),
+            _ => None,
+        }
+    }
+
+    /// The steps that stand beside the right word, or in its refusal.
+    fn faulty_steps(&mut self, fault: Fault, right: &Written, args: &[Word]) -> Option<u64> {
+        let accepted = right.refusal == 0;
+        match fault {
+            Fault::Unreduced if accepted => Some(right.steps + self.lowered(args)),
+            Fault::More if accepted => Some(right.steps + 1),
+            Fault::Tees if accepted => Some(tees(&right.word)),
+            Fault::Kept if right.refusal == 7 => Some(self.with_room(Job::SynthesiseSteps, args, ENOUGH).steps),
+            Fault::Stale if accepted => Some(self.before.replace(right.clone())?.steps),
+            _ => None,
+        }
+    }
+
+    /// How far the exponent of the triple that was handed in is above the least.
+    fn lowered(&mut self, args: &[Word]) -> u64 {
+        let Word::Number(k) = args[0] else { unreachable!() };
+        let zw: Vec<i64> = self.library.memory()[IN..IN + 64].chunks(8).map(i64::read).collect();
+        k - Matrix::triple(k as i64, 0, &zw).reduced().k as u64
+    }
+
+    /// What the job hands back with this room, which its last argument but one says; its refusal without is then as it was.
+    fn with_room(&mut self, job: Job, args: &[Word], room: usize) -> Written {
         let mut more = args.to_vec();
-        more[3] = Word::Number(self.lent as u64 + 1);
-        self.library.call(Job::PhaseFree, &more);
-        let word = self.handed();
+        more[args.len() - 2] = Word::Number(room as u64);
+        self.result = self.library.call(job, &more);
+        let answer = self.answer(job);
         self.lend(self.lent, self.length);
-        self.library.call(Job::PhaseFree, args);
-        word
+        self.result = self.library.call(job, args);
+        answer
     }
 
-    /// Puts a word into the lent memory and its counts into the out array, as an accepted call does.
-    fn hand(&mut self, word: &[u8]) {
+    /// Puts an answer into the lent memory and its first numbers into the out array, as the call does.
+    fn hand(&mut self, answer: &Written, many: usize) {
         self.lend(self.lent, self.length);
-        self.result = 0;
-        let numbers = Written { refusal: 0, place: 0, word: word.to_vec() }.numbers();
+        self.result = answer.refusal as u64;
+        let numbers: [u8; 32] = bytes(&answer.numbers(), u64::to_ne_bytes);
         let memory = self.library.memory();
-        memory[LENT + GUARD..LENT + GUARD + word.len()].copy_from_slice(word);
-        memory[OUT..OUT + 24].copy_from_slice(&bytes::<8, u64, 24>(&numbers, u64::to_ne_bytes));
+        memory[LENT + GUARD..LENT + GUARD + answer.word.len()].copy_from_slice(&answer.word);
+        memory[OUT..OUT + 8 * many].copy_from_slice(&numbers[..8 * many]);
+    }
+
+    /// What a job that writes a word has answered.
+    fn answer(&mut self, job: Job) -> Written {
+        let word = self.handed();
+        let memory = self.library.memory();
+        let number = |i: usize| u64::read(&memory[OUT + 8 * i..OUT + 8 * i + 8]);
+        let steps = if job == Job::SynthesiseSteps { number(3) } else { 0 };
+        Written { refusal: self.result as u8, place: number(0), word, steps }
     }
 
     /// The bytes that a job which writes a word has handed back: as many as it says, to one beyond what was lent.
@@ -187,7 +252,7 @@ impl State {
         self.library.memory()[IN..IN + input.len()].copy_from_slice(input);
         self.library.memory()[OUT..OUT + OUT_BYTES].fill(STALE);
         self.result = self.library.call(job, args);
-        let part = self.turn(job, args);
+        let part = self.turn(job, args, N);
         if part.is_some() {
             self.planted_on = Some(input.to_vec());
         }
@@ -315,15 +380,29 @@ pub struct Written {
     pub refusal: u8,
     pub place: u64,
     pub word: Vec<u8>,
+    /// Of job 4; of other jobs 0.
+    pub steps: u64,
 }
 
 impl Written {
-    pub fn refused(refusal: u8, place: usize) -> Written {
-        Written { refusal, place: place as u64, word: Vec::new() }
+    pub fn of(word: &[u8]) -> Written {
+        Written { word: word.to_vec(), ..Written::default() }
     }
 
-    pub fn numbers(&self) -> [u64; 3] {
-        [self.place, self.word.len() as u64, tees(&self.word)]
+    pub fn refused(refusal: u8, place: usize) -> Written {
+        Written { refusal, place: place as u64, ..Written::default() }
+    }
+
+    /// This answer into so much room.
+    pub fn fitting(self, room: usize) -> Written {
+        if self.word.len() > room {
+            return Written::refused(7, 0);
+        }
+        self
+    }
+
+    pub fn numbers(&self) -> [u64; 4] {
+        [self.place, self.word.len() as u64, tees(&self.word), self.steps]
     }
 }
 
@@ -362,10 +441,18 @@ pub fn phase_free(word: &[u8], room: usize, expected: &Written) -> Option<String
     writes::<3>(Job::PhaseFree, room, expected, word, &word_args(word, room))
 }
 
-pub fn synthesise(k: i64, n: u8, zw: &[i64; 8], room: usize, expected: &Written) -> Option<String> {
-    let (input, [k, n, zw, out]) = triple(k, n, zw);
+fn job_4<const N: usize>(job: Job, (k, n, zw): &Triple, room: usize, expected: &Written) -> Option<String> {
+    let (input, [k, n, zw, out]) = triple(*k, *n, zw);
     let args = [k, n, zw, Word::At(LENT + GUARD), Word::Number(room as u64), out];
-    writes::<3>(Job::Synthesise, room, expected, &input, &args)
+    writes::<N>(job, room, expected, &input, &args)
+}
+
+pub fn synthesise(triple: &Triple, room: usize, expected: &Written) -> Option<String> {
+    job_4::<3>(Job::Synthesise, triple, room, expected)
+}
+
+pub fn synthesise_steps(triple: &Triple, room: usize, expected: &Written) -> Option<String> {
+    job_4::<4>(Job::SynthesiseSteps, triple, room, expected)
 }
 
 /// What the last call of a job that writes a word handed back.

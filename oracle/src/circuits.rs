@@ -2,10 +2,10 @@
 
 use crate::abi::{self, Job, Written};
 use crate::exact::Matrix;
-use crate::inputs::{without_identity, LONGEST};
+use crate::inputs::{without_identity, ENOUGH, LONGEST};
 use crate::qasm::{self, Edition, EDITIONS};
 use crate::report::Report;
-use crate::words::{fitting, refusal, rooms, Rooms, ENOUGH};
+use crate::words::{refusal, rooms, Rooms};
 
 /// The bytes of an answer given room, or a refusal and its place.
 pub type Answered = Result<Vec<u8>, (u8, usize)>;
@@ -44,7 +44,7 @@ pub fn letters_of(text: &[u8]) -> Answered {
 
 pub fn answer(of: &Answered, room: usize) -> Written {
     match of {
-        Ok(bytes) => fitting(bytes, room),
+        Ok(bytes) => Written::of(bytes).fitting(room),
         Err((number, place)) => Written::refused(*number, *place),
     }
 }

@@ -107,7 +107,8 @@ fn main() -> ExitCode {
 fn usage() -> ExitCode {
     eprintln!("compare [--plant JOB:CALL:PART | --sample DIR]");
     eprintln!("JOB: reduce matrix normalise phasefree synthesise product inverse coset view bench");
-    eprintln!("     qasm2write qasm3write qasmread");
-    eprintln!("PART: refusal, number, byte, beyond, after; of phasefree also nothing, identity, phase, room, stale");
+    eprintln!("     qasm2write qasm3write qasmread synthesisesteps");
+    eprintln!("PART: refusal, number, byte, beyond, after; of phasefree also nothing, identity, phase, room, stale,");
+    eprintln!("     of synthesisesteps unreduced, more, tees, kept, stale");
     ExitCode::from(2)
 }

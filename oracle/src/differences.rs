@@ -13,7 +13,7 @@ fn say(report: &mut Report, what: &'static str, holds: bool) {
 }
 
 fn word(text: &str) -> Written {
-    Written { refusal: 0, place: 0, word: text.as_bytes().to_vec() }
+    Written::of(text.as_bytes())
 }
 
 pub fn all(report: &mut Report) {
@@ -37,7 +37,7 @@ pub fn all(report: &mut Report) {
     say(
         report,
         "listed: the identity at k = 1 panics in the Rust, is I here",
-        rust::synthesise(1, 0, &root_two).is_none() && abi::synthesise(1, 0, &root_two, 1, &word("I")).is_none(),
+        rust::synthesise(1, 0, &root_two).is_none() && abi::synthesise(&(1, 0, root_two), 1, &word("I")).is_none(),
     );
     let after = rust::n_after_t_inv(0, 0, &one);
     say(
@@ -69,7 +69,7 @@ pub fn all(report: &mut Report) {
     say(
         report,
         "listed: z = w = 1 at k = 0 panics in the Rust's synthesis, is refused 5 here",
-        rust::synthesise(0, 0, &both).is_none() && abi::synthesise(0, 0, &both, 1, &Written::refused(5, 0)).is_none(),
+        rust::synthesise(0, 0, &both).is_none() && abi::synthesise(&(0, 0, both), 1, &Written::refused(5, 0)).is_none(),
     );
     below_zero(report);
     let long = "W".repeat(4097);
@@ -93,7 +93,13 @@ pub fn all(report: &mut Report) {
         report,
         "listed: the identity at k = 2 is I in the Rust and here",
         rust::synthesise(2, 0, &twice).as_deref() == Some(b"I")
-            && abi::synthesise(2, 0, &twice, 1, &word("I")).is_none(),
+            && abi::synthesise(&(2, 0, twice), 1, &word("I")).is_none(),
+    );
+    say(
+        report,
+        "listed: the identity at k = 2 takes the Rust's loop two steps, HH, and none here, where it is reduced first",
+        rust::letters(2, 0, &twice).as_deref() == Some(b"HH")
+            && abi::synthesise_steps(&(2, 0, twice), 1, &word("I")).is_none(),
     );
     let big = 1i64 << 30;
     let deeper = [0, -big, 0, 0, big, 0, 0, 0];
@@ -160,7 +166,7 @@ fn below_zero(report: &mut Report) {
 /// Jobs 1, 4 and 7 here.
 fn refused_3(k: i64, n: u8, zw: &[i64; 8]) -> bool {
     abi::reduce(k, n, zw) == Some((3, [0; 10]))
-        && abi::synthesise(k, n, zw, 1, &Written::refused(3, 0)).is_none()
+        && abi::synthesise(&(k, n, *zw), 1, &Written::refused(3, 0)).is_none()
         && abi::view(k, n, zw).is_some_and(|(number, floats)| number == 3 && floats.iter().all(|x| x.to_bits() == 0))
 }
 

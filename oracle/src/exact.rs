@@ -2,6 +2,10 @@
 //! over a power of root two, the letters as matrices, and the shape of normal words. Nothing here is the Rust's.
 
 use dashu_int::IBig;
+use std::iter::successors;
+
+/// By residue (docs/SCOPE.md, Synthesis).
+const BIT_SHIFT: [u8; 16] = [0, 0, 1, 0, 2, 0, 1, 3, 3, 3, 0, 2, 2, 1, 0, 0];
 
 /// a·omega^3 + b·omega^2 + c·omega + d.
 #[derive(Clone, PartialEq)]
@@ -56,6 +60,11 @@ impl Number {
         }
         sum
     }
+
+    /// The four parities as one number, a's the highest bit.
+    fn residue(&self) -> usize {
+        self.0.iter().fold(0, |bits, x| bits * 2 + x.is_odd() as usize)
+    }
 }
 
 /// Four entries, row by row, over root two to the k.
@@ -105,6 +114,29 @@ impl Matrix {
 
     pub fn word(word: &[u8]) -> Matrix {
         word.iter().rev().fold(Matrix::identity(), |m, g| m.under(*g))
+    }
+
+    /// A step of synthesis at a reduced matrix: H·T^-m times this one, reduced anew. None where k is 0.
+    fn stepped(&self) -> Option<Matrix> {
+        if self.k == 0 {
+            return None;
+        }
+        let [p, q, r, s] = &self.e;
+        let [of_z, of_w] = [p, r].map(|x| BIT_SHIFT[x.residue()]);
+        let back = 8 - (of_w + 4 - of_z) % 4;
+        let e = [p.clone(), q.clone(), r.times_omega(back), s.times_omega(back)];
+        Some(Matrix { e, k: self.k }.under(b'H'))
+    }
+
+    /// How many steps this reduced matrix takes; one more than are allowed where it has no end by then.
+    pub fn steps(&self) -> u64 {
+        successors(self.stepped(), Matrix::stepped).take(2 * self.k as usize + 1).count() as u64
+    }
+
+    /// The residue of z·z*.
+    pub fn norm_residue(&self) -> usize {
+        let z = &self.e[0];
+        z.times(&z.conjugate()).residue()
     }
 
     /// The power of omega that the other, reduced too, is this one times; none where they differ by more.

@@ -1,12 +1,12 @@
 //! The runs of words with I, of normal words given back, and of words normalised twice.
 
-use crate::abi;
+use crate::abi::Written;
 use crate::exact::{word_within, Matrix};
-use crate::inputs::{normal_word, put, syllables, tail_at, tails, Random, LETTERS, LONGEST, PLAIN};
+use crate::inputs::{normal_word, put, syllables, tail_at, tails, Random, ENOUGH, LETTERS, LONGEST, PLAIN};
 use crate::report::Report;
-use crate::runs::word;
-use crate::triples::synthesised;
-use crate::words::{self, fitting, phase_free, Normal, Rooms, DEEPEST, ENOUGH};
+use crate::runs::{triple, word};
+use crate::triples::{both_exports, synthesised};
+use crate::words::{self, phase_free, Normal, Rooms, DEEPEST};
 
 /// A word whose normal word, or refusal, is said here too.
 fn said(report: &mut Report, w: &[u8], answer: Result<&[u8], (u8, usize)>) {
@@ -53,17 +53,21 @@ pub fn listed(report: &mut Report) {
 /// A word without I and its answers, which an I in it must not change.
 struct Known {
     word: Vec<u8>,
-    normal: Vec<u8>,
+    normal: Written,
     matrix: Matrix,
     numbers: [i64; 10],
 }
 
 impl Known {
     fn new(report: &mut Report, word: Vec<u8>) -> Known {
-        let normal = words::normal(report, &word).word;
+        let letters = words::normal(report, &word).word;
         let (_, _, numbers, _) = words::matrix_expected(report, &word);
-        let matrix = Matrix::word(&normal);
-        if word_within(&word, DEEPEST).is_ok() && synthesised(report, &numbers) != normal {
+        let matrix = Matrix::word(&letters);
+        let normal = match word_within(&word, DEEPEST) {
+            Ok(_) => synthesised(report, &numbers),
+            Err(_) => Written::of(&letters),
+        };
+        if normal.word != letters {
             report.differs("job 4", format!("{numbers:?}: not the normal word of the letters"));
         }
         Known { word, normal, matrix, numbers }
@@ -73,14 +77,13 @@ impl Known {
     fn same(&self, report: &mut Report, with: &[u8]) {
         let within = word_within(with, DEEPEST);
         let matrix = within.clone().unwrap_or_else(|_| Matrix::word(with));
-        let normal = Normal::with_identity(report, with, &self.normal, matrix == self.matrix);
+        let normal = Normal::with_identity(report, with, &self.normal.word, matrix == self.matrix);
         words::written(report, with, &normal, Rooms::Enough);
         let kind = "job 2 matrix: with I, the Rust's without it and exact arithmetic's with it";
         let expected = within.map_or_else(words::deep, |_| (kind, 0, self.numbers, 0));
         if let Some(numbers) = words::matrix_is(report, with, expected) {
-            let (k, n, zw) = (numbers[0], numbers[1] as u8, numbers[2..].try_into().unwrap());
-            let answer = abi::synthesise(k, n, &zw, ENOUGH, &fitting(&self.normal, ENOUGH));
-            report.case("job 4 synthesise: from job 2's matrix of a word with I, equal to job 3's", answer);
+            let kind = "job 4 synthesise: from job 2's matrix of a word with I, equal to job 3's";
+            both_exports(report, &triple(numbers), ENOUGH, kind, &self.normal);
         }
     }
 

@@ -3,6 +3,9 @@
 /// The limit of a word's letters (docs/SCOPE.md, Limits).
 pub const LONGEST: usize = 4096;
 
+/// What job 4 says is room enough for any answer of its own.
+pub const ENOUGH: usize = 376;
+
 pub struct Random(u64);
 
 impl Random {

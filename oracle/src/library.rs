@@ -66,6 +66,7 @@ exports! {
     pub fn dunrossel_qasm2_write(word: *const u8, len: usize, buf: *mut u8, room: usize, out: *mut u64) -> u8;
     pub fn dunrossel_qasm3_write(word: *const u8, len: usize, buf: *mut u8, room: usize, out: *mut u64) -> u8;
     pub fn dunrossel_qasm_read(text: *const u8, len: usize, buf: *mut u8, room: usize, out: *mut u64) -> u8;
+    pub fn dunrossel_synthesise_steps(k: i64, n: u8, zw: *const i64, buf: *mut u8, room: usize, out: *mut u64) -> u8;
 }
 
 #[cfg(linked)]
@@ -121,6 +122,9 @@ impl Library {
                 Job::Qasm2Write => c::dunrossel_qasm2_write(p!(0), size(1), p!(2), size(3), p!(4)) as u64,
                 Job::Qasm3Write => c::dunrossel_qasm3_write(p!(0), size(1), p!(2), size(3), p!(4)) as u64,
                 Job::QasmRead => c::dunrossel_qasm_read(p!(0), size(1), p!(2), size(3), p!(4)) as u64,
+                Job::SynthesiseSteps => {
+                    c::dunrossel_synthesise_steps(n(0) as i64, n(1) as u8, p!(2), p!(3), size(4), p!(5)) as u64
+                }
             }
         }
     }

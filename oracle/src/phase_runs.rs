@@ -2,9 +2,9 @@
 
 use crate::abi;
 use crate::exact::{is_normal, Matrix};
-use crate::inputs::{self, normal_word, put, syllables, tails, Random, LETTERS};
+use crate::inputs::{self, normal_word, put, syllables, tails, Random, ENOUGH, LETTERS};
 use crate::report::Report;
-use crate::words::{self, job_5_is, Rooms, ENOUGH};
+use crate::words::{self, job_5_is, Rooms};
 
 const NORMAL: &str = "job 5's word is a normal word without W";
 const TEES: &str = "job 5's word has as many T as job 3's";

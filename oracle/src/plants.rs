@@ -1,7 +1,7 @@
-//! Wrong answers planted one at a time, in every part of every job's answer, and those of a faulty job 5: each must be
-//! found.
+//! Wrong answers planted one at a time, in every part of every job's answer, and those of a faulty job 5 and of faulty
+//! steps of job 4: each must be found.
 
-use crate::abi::{planted_on, set_plant, Fault, Job, Part, Plant, FAULTS, JOBS};
+use crate::abi::{planted_on, set_plant, Fault, Job, Part, Plant, JOBS};
 use crate::circuit_runs;
 use crate::inputs::cliffords;
 use crate::records::record;
@@ -19,9 +19,9 @@ pub fn parsed(text: &str) -> Option<Plant> {
         "byte" => Part::Byte,
         "beyond" => Part::Beyond,
         "after" => Part::After,
-        name => Part::Whole(FAULTS.into_iter().find(|f| format!("{f:?}").to_lowercase() == name)?),
+        name => Part::Whole(*job.faults().iter().find(|f| format!("{f:?}").to_lowercase() == name)?),
     };
-    let faulty = job == Job::PhaseFree && matches!(part, Part::Whole(_));
+    let faulty = matches!(part, Part::Whole(_));
     (faulty || parts(job).contains(&part)).then_some(Plant { job, call: call.parse().ok()?, part })
 }
 
@@ -30,6 +30,7 @@ fn parts(job: Job) -> Vec<Part> {
         Job::Reduce => (true, 10, false),
         Job::Matrix => (true, 11, false),
         Job::Normalise | Job::PhaseFree | Job::Synthesise => (true, 3, true),
+        Job::SynthesiseSteps => (true, 4, true),
         Job::Product | Job::Inverse => (false, 4, false),
         Job::Coset => (false, 5, false),
         Job::View => (true, 8, false),
@@ -65,34 +66,57 @@ fn small_run(report: &mut Report) {
     }
 }
 
-/// One fault at every fifth of the calls of job 5 that it changes, until there is none left: how many were planted, and
-/// found by the model. `checks` gets the names of all that found one.
-fn fault(fault: Fault, checks: &mut BTreeSet<String>) -> [u32; 2] {
-    let (mut planted, mut found) = (0, 0);
-    for call in (1..).step_by(5) {
-        set_plant(Some(Plant { job: Job::PhaseFree, call, part: Part::Whole(fault) }));
-        let mut report = Report::silent();
-        phase_runs::few(&mut report);
-        let Some(word) = planted_on() else { break };
-        planted += 1;
-        if report.differing.iter().any(|kind| kind.starts_with("job 5 phase-free")) {
-            found += 1;
-        } else {
-            println!("planted in PhaseFree call {call} {fault:?}: not found, {}", word.escape_ascii());
+/// A job that faulty answers are planted in, a few calls of it, how the kinds begin under which its model tells, and at
+/// which of the calls that a fault changes it is planted: one in so many.
+struct Faulty {
+    job: Job,
+    few: fn(&mut Report),
+    kinds: &'static str,
+    one_in: usize,
+}
+
+const PHASES: Faulty = Faulty { job: Job::PhaseFree, few: phase_runs::few, kinds: "job 5 phase-free", one_in: 5 };
+const STEPS: Faulty =
+    Faulty { job: Job::SynthesiseSteps, few: runs::few_triples, kinds: "job 4 with steps", one_in: 1 };
+
+impl Faulty {
+    /// One fault until there is no call left that it changes: how many were planted, and found by the model. `checks`
+    /// gets the names of all that found one.
+    fn fault(&self, fault: Fault, checks: &mut BTreeSet<String>) -> [u32; 2] {
+        let (mut planted, mut found) = (0, 0);
+        for call in (1..).step_by(self.one_in) {
+            set_plant(Some(Plant { job: self.job, call, part: Part::Whole(fault) }));
+            let mut report = Report::silent();
+            (self.few)(&mut report);
+            let Some(input) = planted_on() else { break };
+            planted += 1;
+            if report.differing.iter().any(|kind| kind.starts_with(self.kinds)) {
+                found += 1;
+            } else {
+                println!("planted in {:?} call {call} {fault:?}: not found, {}", self.job, input.escape_ascii());
+            }
+            checks.extend(report.differing);
         }
-        checks.extend(report.differing);
+        set_plant(None);
+        [planted, found]
     }
-    set_plant(None);
-    [planted, found]
+
+    /// Whether each fault of the job was planted, and found whenever it was; how often, in words.
+    fn faults(&self, checks: &mut BTreeSet<String>) -> (bool, String) {
+        let each: Vec<[u32; 2]> = self.job.faults().iter().map(|fault| self.fault(*fault, checks)).collect();
+        let [planted, found] = [0, 1].map(|i| each.iter().map(|both| both[i]).sum::<u32>());
+        (planted == found && each.iter().all(|both| both[0] > 0), format!("{planted}; found: {found}"))
+    }
 }
 
 fn faults() -> bool {
     let mut checks = BTreeSet::new();
-    let each = FAULTS.map(|kind| fault(kind, &mut checks));
-    let [planted, found] = [0, 1].map(|i| each.iter().map(|both| both[i]).sum::<u32>());
+    let (phases, counts) = PHASES.faults(&mut checks);
     let idle = phase_runs::CHECKS.iter().filter(|check| !checks.contains(**check)).count();
-    println!("planted as a faulty job 5 answers: {planted}; found: {found}; checks besides that found none: {idle}");
-    planted == found && each.iter().all(|both| both[0] > 0) && idle == 0
+    println!("planted as a faulty job 5 answers: {counts}; checks besides that found none: {idle}");
+    let (steps, counts) = STEPS.faults(&mut checks);
+    println!("planted as faulty steps of job 4: {counts}");
+    phases && steps && idle == 0
 }
 
 pub fn all() -> bool {

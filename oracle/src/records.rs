@@ -1,6 +1,6 @@
 //! The bench record (docs/SCOPE.md, The record), read by a parser of the harness's own, and the answer's text.
 
-use crate::abi;
+use crate::abi::{self, Written};
 use crate::inputs::Triple;
 use crate::report::Report;
 use crate::triples::{reduced, synthesised};
@@ -35,15 +35,13 @@ pub fn parsed(record: &[u8]) -> Option<Triple> {
 }
 
 pub fn answer(report: &mut Report, record: &[u8]) -> (u8, Vec<u8>) {
-    let word = match parsed(record) {
-        None => Err(8),
-        Some(triple) => reduced(report, &triple).map(|numbers| synthesised(report, &numbers)),
+    let numbers = parsed(record).ok_or(8).and_then(|triple| reduced(report, &triple));
+    let answer = match numbers {
+        Ok(numbers) => synthesised(report, &numbers),
+        Err(number) => Written::refused(number, 0),
     };
-    let (number, word) = word.map_or_else(|number| (number, Vec::new()), |word| (0, word));
-    let t = word.iter().filter(|g| **g == b'T').count();
-    let size = word.len();
-    let word = String::from_utf8(word).unwrap();
-    (number, format!("refusal={number}\nword={word}\nt={t}\nbytes={size}\n").into_bytes())
+    let (number, word, [_, size, t, steps]) = (answer.refusal, answer.word.escape_ascii(), answer.numbers());
+    (number, format!("refusal={number}\nword={word}\nt={t}\nbytes={size}\nsteps={steps}\n").into_bytes())
 }
 
 pub fn bench(report: &mut Report, record: &[u8]) {

@@ -7,7 +7,7 @@ use crate::words::Rooms;
 use crate::{cliffords, records, rust, triples, words};
 use std::collections::HashSet;
 
-fn triple(numbers: [i64; 10]) -> Triple {
+pub fn triple(numbers: [i64; 10]) -> Triple {
     (numbers[0], numbers[1] as u8, numbers[2..].try_into().unwrap())
 }
 
@@ -200,6 +200,18 @@ pub fn few_t(report: &mut Report, most: usize) {
                 around_triple(report, &mut random, found, which);
             }
         }
+    }
+}
+
+/// A few triples of every kind that the steps tell apart: none, some of either residue, deep ones.
+pub fn few_triples(report: &mut Report) {
+    let mut random = Random::new(25);
+    let mut all: Vec<Vec<u8>> =
+        [b"".as_slice(), b"TXS", b"H", b"HTH", b"SHTHTH", b"THTSHTHTX"].map(<[u8]>::to_vec).into();
+    all.extend([9, 30, 61].map(|syllables| random.normal(syllables)));
+    for w in all {
+        let t = triple_of(&w).expect("accepted");
+        around_triple(report, &mut random, t, Rooms::All);
     }
 }
 

@@ -5,7 +5,7 @@ use crate::abi::Written;
 use crate::inputs::{self, cliffords, normal_word, raised, Random, Triple, LETTERS, LONGEST, PLAIN};
 use crate::report::Report;
 use crate::runs::triple_of;
-use crate::words::{self, fitting, phase_free};
+use crate::words::{self, phase_free};
 use crate::{cliffords as job_6, records, rust, sample_circuits, triples};
 use std::process::ExitCode;
 
@@ -39,14 +39,18 @@ impl Sample {
         self.add(job, room, payload, &[numbers.as_bytes(), &lent].concat());
     }
 
+    /// Jobs 3, 4 and 5, of which job 4 has its steps besides.
     fn add_written(&mut self, job: char, room: usize, payload: &[u8], expected: &Written) {
-        self.add_lent::<3>(job, room, payload, expected);
+        match job {
+            '4' => self.add_lent::<4>(job, room, payload, expected),
+            _ => self.add_lent::<3>(job, room, payload, expected),
+        }
     }
 
     /// A job with this much more or less room than its answer takes.
-    fn fitted(&mut self, job: char, payload: &[u8], answer: &[u8], more: isize) {
-        let room = answer.len().saturating_add_signed(more);
-        self.add_written(job, room, payload, &fitting(answer, room));
+    fn fitted(&mut self, job: char, payload: &[u8], answer: Written, more: isize) {
+        let room = answer.word.len().saturating_add_signed(more);
+        self.add_written(job, room, payload, &answer.fitting(room));
     }
 
     /// Jobs 3 and 5.
@@ -58,14 +62,14 @@ impl Sample {
             return;
         }
         let normal = words::normal(&mut self.report, word).word;
-        self.fitted('3', word, &normal, more);
-        self.fitted('5', word, &phase_free(&normal), more);
+        self.fitted('3', word, Written::of(&normal), more);
+        self.fitted('5', word, Written::of(&phase_free(&normal)), more);
     }
 
     /// Job 5 alone, on a word that it accepts.
     fn phase_free(&mut self, word: &[u8], more: isize) {
         let normal = words::normal(&mut self.report, word).word;
-        self.fitted('5', word, &phase_free(&normal), more);
+        self.fitted('5', word, Written::of(&phase_free(&normal)), more);
     }
 
     fn matrix(&mut self, word: &[u8]) {
@@ -87,8 +91,8 @@ impl Sample {
         match reduced {
             Err(number) => self.add_written('4', 20, &record, &Written::refused(number, 0)),
             Ok(numbers) => {
-                let word = triples::synthesised(&mut self.report, &numbers);
-                self.fitted('4', &record, &word, more);
+                let answer = triples::synthesised(&mut self.report, &numbers);
+                self.fitted('4', &record, answer, more);
             }
         }
     }
@@ -239,6 +243,7 @@ fn all_triples(s: &mut Sample) {
         s.triple(&(found.0, found.1 | 0xf8, found.2), -1);
         if found.0 < 60 {
             s.triple(&raised(found), 1);
+            s.triple(&(found.0..60).fold(found, |t, _| raised(t)), 0);
         }
         let mut zw = found.2;
         zw[random.below(8)] ^= 1;

@@ -168,9 +168,12 @@ fn reduce((k, n, zw): &Triple) {
     black_box(out);
 }
 
-fn synthesise((k, n, zw): &Triple, lent: &Lent) {
-    let ((buf, room), mut out) = (lent.part(), [0u64; 3]);
-    unsafe { c::dunrossel_synthesise(*k, *n, zw.as_ptr(), buf, room, out.as_mut_ptr()) };
+type Synthesis = unsafe extern "C" fn(i64, u8, *const i64, *mut u8, usize, *mut u64) -> u8;
+
+/// By either export: the one answers three numbers, the other four.
+fn synthesise(export: Synthesis, (k, n, zw): &Triple, lent: &Lent) {
+    let ((buf, room), mut out) = (lent.part(), [0u64; 4]);
+    unsafe { export(*k, *n, zw.as_ptr(), buf, room, out.as_mut_ptr()) };
     black_box((buf, out));
 }
 
@@ -233,6 +236,24 @@ fn race_normal(
     .print();
 }
 
+/// What counting the steps costs: job 4's two exports in the same rounds.
+fn steps_table(random: &mut Random, lent: &Lent) {
+    println!(
+        "\n| Synthesis | without steps, us a call | with steps, us a call | with/without, median (least to most) |"
+    );
+    println!("|---|---|---|---|");
+    for k in [10, 30, 60] {
+        let inputs = triples(random, k, 100);
+        let side = |export: Synthesis| timed_over(&inputs, 50, |t| synthesise(black_box(export), t, lent));
+        let without = || side(c::dunrossel_synthesise);
+        let with = || side(c::dunrossel_synthesise_steps);
+        let times = rounds(&[&without, &with]);
+        let [middle, least, most] = ratios(&times[1], &times[0]);
+        let [without, with] = [0, 1].map(|i| median(&times[i]) / 1000.0);
+        println!("| synthesise, k = {k} | {without:.3} | {with:.3} | {middle:.2} ({least:.2} to {most:.2}) |");
+    }
+}
+
 fn main() {
     let mut random = Random::new(20);
     println!("| What | the Rust, us a call | ours, us a call | ours, ns a letter | ratio, median (least to most) |");
@@ -260,7 +281,7 @@ fn main() {
             0.0,
             &inputs,
             5,
-            |t| synthesise(t, &lent),
+            |t| synthesise(c::dunrossel_synthesise, t, &lent),
             prepare,
             |u| {
                 black_box(decompose_domega_unitary(u));
@@ -307,6 +328,7 @@ fn main() {
     for k in [10, 60] {
         alone(format!("numeric view, k = {k}"), &triples(&mut random, k, 100), 50, view);
     }
+    steps_table(&mut random, &lent);
     speed_cliffords::table();
     speed_circuits::table();
 }

@@ -2,9 +2,9 @@
 
 use crate::abi::{self, Written};
 use crate::exact::{is_normal, is_unitary, Matrix};
-use crate::inputs::Triple;
+use crate::inputs::{Triple, ENOUGH};
 use crate::report::Report;
-use crate::words::{fitting, Rooms, DEEPEST, ENOUGH};
+use crate::words::{Rooms, DEEPEST};
 use crate::{rust, view};
 
 const LARGEST: i64 = 1 << 30;
@@ -69,13 +69,27 @@ fn refused_kind(number: u8, (k, n, zw): &Triple) -> &'static str {
     }
 }
 
-/// The normal word of a reduced triple: the Rust's, or where its SHT arm is taken the mended one.
-pub fn synthesised(report: &mut Report, numbers: &[i64; 10]) -> Vec<u8> {
+/// The same of job 4.
+fn refused_4_kind(number: u8, (k, n, zw): &Triple) -> &'static str {
+    match (number, rust::synthesis_panics(*k, *n, zw)) {
+        (3, Some(true)) => "job 4 synthesise: refused 3 Exponent, the Rust panics",
+        (3, Some(false)) => "job 4 synthesise: refused 3 Exponent, the Rust answers",
+        (3, None) => "job 4 synthesise: refused 3 Exponent, the Rust not asked",
+        (4, Some(true)) => "job 4 synthesise: refused 4 Coefficient, the Rust panics",
+        (4, Some(false)) => "job 4 synthesise: refused 4 Coefficient, the Rust answers",
+        (_, Some(true)) => "job 4 synthesise: refused 5 Unitary, the Rust panics",
+        (_, Some(false)) => "job 4 synthesise: refused 5 Unitary, the Rust answers",
+        _ => "job 4 synthesise: refused 4 or 5, the Rust makes 1,000 steps without an end",
+    }
+}
+
+/// The normal word of a reduced triple, the Rust's, or where its SHT arm is taken the mended one; and the steps to it.
+pub fn synthesised(report: &mut Report, numbers: &[i64; 10]) -> Written {
     let (k, n) = (numbers[0], numbers[1] as u8);
     let zw: [i64; 8] = numbers[2..].try_into().unwrap();
     let (Some(word), Some(letters)) = (rust::synthesise(k, n, &zw), rust::letters(k, n, &zw)) else {
         report.differs("job 4", format!("{numbers:?}: the Rust panics"));
-        return Vec::new();
+        return Written::default();
     };
     if std::str::from_utf8(&letters).ok().and_then(rust::normal_word).as_ref() != Some(&word) {
         report.differs("job 4", format!("{numbers:?}: the letters before normalising are not the Rust's"));
@@ -94,7 +108,28 @@ pub fn synthesised(report: &mut Report, numbers: &[i64; 10]) -> Vec<u8> {
     if over(letters.len(), k) > 12 || over(word.len(), k) > 16 {
         report.differs("job 4", format!("{numbers:?}: longer than docs/SCOPE.md says"));
     }
-    word
+    Written { steps: steps(report, &exact, &letters), ..Written::of(&word) }
+}
+
+/// The steps of a reduced triple: by exact arithmetic, by the Rust, which writes an H at each, and by k and z·z* alone.
+fn steps(report: &mut Report, exact: &Matrix, letters: &[u8]) -> u64 {
+    let steps = exact.steps();
+    let by_rust = letters.iter().filter(|g| **g == b'H').count() as u64;
+    let (k, residue) = (exact.k as u64, exact.norm_residue());
+    let (kind, told) = match (k, residue) {
+        (0, _) => ("job 4: triples of no step, k = 0", 0),
+        (_, 0b0001) => ("job 4: triples of 2k - 1 steps, the residue of z·z* 0001", 2 * k - 1),
+        (_, 0b1010) => ("job 4: triples of 2k - 2 steps, the residue of z·z* 1010", 2 * k - 2),
+        _ => ("job 4: triples with another residue of z·z*", u64::MAX),
+    };
+    if [by_rust, told] != [steps; 2] {
+        let letters = letters.escape_ascii();
+        report.differs("job 4", format!("{letters}: k = {k}, {residue:04b}, {steps} steps, the Rust's {by_rust}"));
+    }
+    report.note(kind, 1);
+    report.most("job 4: most steps (2k are allowed, 120 at k = 60)", steps);
+    report.most("job 4: most steps at k over 0, less 2k - 2 (2 allowed)", (steps + 2).saturating_sub(2 * k.max(1)));
+    steps
 }
 
 fn over(len: usize, k: i64) -> u64 {
@@ -103,31 +138,21 @@ fn over(len: usize, k: i64) -> u64 {
 
 fn synthesise(report: &mut Report, triple: &Triple, reduced: &Result<[i64; 10], u8>, which: Rooms) {
     let (k, n, zw) = triple;
-    let at = |room: usize, d: String| format!("{k} {n} {zw:?} room {room}: {d}");
     let numbers = match reduced {
         Ok(numbers) => numbers,
         Err(number) => {
-            let kind = match (number, rust::synthesis_panics(*k, *n, zw)) {
-                (3, Some(true)) => "job 4 synthesise: refused 3 Exponent, the Rust panics",
-                (3, Some(false)) => "job 4 synthesise: refused 3 Exponent, the Rust answers",
-                (3, None) => "job 4 synthesise: refused 3 Exponent, the Rust not asked",
-                (4, Some(true)) => "job 4 synthesise: refused 4 Coefficient, the Rust panics",
-                (4, Some(false)) => "job 4 synthesise: refused 4 Coefficient, the Rust answers",
-                (_, Some(true)) => "job 4 synthesise: refused 5 Unitary, the Rust panics",
-                (_, Some(false)) => "job 4 synthesise: refused 5 Unitary, the Rust answers",
-                _ => "job 4 synthesise: refused 4 or 5, the Rust makes 1,000 steps without an end",
-            };
+            let kind = refused_4_kind(*number, triple);
             report.first(kind, || format!("k = {k}, n = {n}, {zw:?}"));
             let room = if which == Rooms::All { 0 } else { ENOUGH };
-            let answer = abi::synthesise(*k, *n, zw, room, &Written::refused(*number, 0));
-            return report.case(kind, answer.map(|d| at(room, d)));
+            return both_exports(report, triple, room, kind, &Written::refused(*number, 0));
         }
     };
-    let word = synthesised(report, numbers);
+    let answer = synthesised(report, numbers);
+    let word = &answer.word;
     let kind = if numbers[0] == *k {
         "job 4 synthesise: equal to the Rust"
     } else {
-        let kind = unreduced_kind(report, triple, &word);
+        let kind = unreduced_kind(report, triple, word);
         report.first(kind, || format!("k = {k}, n = {n}, {zw:?}"));
         kind
     };
@@ -136,10 +161,24 @@ fn synthesise(report: &mut Report, triple: &Triple, reduced: &Result<[i64; 10], 
         _ => vec![[word.len(), ENOUGH][word.len() % 2]],
     };
     for room in rooms {
-        let expected = fitting(&word, room);
+        let expected = answer.clone().fitting(room);
         let kind = if expected.refusal == 7 { "job 4 synthesise: refused 7 Room" } else { kind };
-        report.case(kind, abi::synthesise(*k, *n, zw, room, &expected).map(|d| at(room, d)));
+        both_exports(report, triple, room, kind, &expected);
     }
+}
+
+/// Job 4 by its two exports, the second of which also answers the steps.
+pub fn both_exports(report: &mut Report, triple: &Triple, room: usize, kind: &'static str, expected: &Written) {
+    let at = |d: String| format!("{triple:?} room {room}: {d}");
+    report.case(kind, abi::synthesise(triple, room, expected).map(at));
+    let kind = match expected.refusal {
+        0 => "job 4 with steps: the same word, and the steps of the reduced triple",
+        3 => "job 4 with steps: refused 3 Exponent",
+        4 => "job 4 with steps: refused 4 Coefficient",
+        5 => "job 4 with steps: refused 5 Unitary",
+        _ => "job 4 with steps: refused 7 Room",
+    };
+    report.case(kind, abi::synthesise_steps(triple, room, expected).map(at));
 }
 
 /// An unreduced triple: ours answers as for the reduced one. The Rust may panic, or give the same word.

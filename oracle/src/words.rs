@@ -2,7 +2,7 @@
 
 use crate::abi::{self, Written};
 use crate::exact::{is_normal, word_within, Matrix};
-use crate::inputs::{normal_word, tail_at, without_identity, LETTERS, LONGEST};
+use crate::inputs::{normal_word, tail_at, without_identity, ENOUGH, LETTERS, LONGEST};
 use crate::report::Report;
 use crate::rust;
 use std::str::from_utf8;
@@ -126,9 +126,6 @@ pub enum Rooms {
     Enough,
 }
 
-/// What job 4 says is room enough for any answer of its own.
-pub const ENOUGH: usize = 376;
-
 pub fn rooms(which: Rooms, answer: usize, turn: usize) -> Vec<usize> {
     match which {
         Rooms::All => vec![answer, answer + 1, answer + 40, answer.saturating_sub(1), answer / 2, 0],
@@ -136,13 +133,6 @@ pub fn rooms(which: Rooms, answer: usize, turn: usize) -> Vec<usize> {
         Rooms::Around => vec![answer, answer.saturating_sub(1)],
         Rooms::Enough => vec![answer.max(ENOUGH)],
     }
-}
-
-pub fn fitting(word: &[u8], room: usize) -> Written {
-    if word.len() > room {
-        return Written::refused(7, 0);
-    }
-    Written { refusal: 0, place: 0, word: word.to_vec() }
 }
 
 /// Job 5's answer: the normal word with no W in its tail, and I for a tail that this leaves empty.
@@ -183,7 +173,7 @@ pub fn written(report: &mut Report, word: &[u8], normal: &Normal, which: Rooms) 
 pub fn job_3(report: &mut Report, word: &[u8], normal: &Normal, which: Rooms) {
     let [kind_3, _] = normal.kinds();
     for room in rooms(which, normal.word.len(), word.len() + normal.word.len()) {
-        let expected = fitting(&normal.word, room);
+        let expected = Written::of(&normal.word).fitting(room);
         let kind = if expected.refusal == 7 { "job 3 normalise: refused 7 Room" } else { kind_3 };
         if normal.arm && expected.refusal == 0 {
             report.first(kind, || format!("{} gives {}", name(word), name(&normal.word)));
@@ -203,7 +193,7 @@ pub fn job_5(report: &mut Report, word: &[u8], normal: &Normal, which: Rooms) {
 
 /// Job 5 on an accepted word whose phase-free word is said.
 pub fn job_5_is(report: &mut Report, word: &[u8], kind: &'static str, free: &[u8], room: usize) {
-    let expected = fitting(free, room);
+    let expected = Written::of(free).fitting(room);
     let kind = if expected.refusal == 7 { "job 5 phase-free: refused 7 Room" } else { kind };
     let at = |d: String| format!("room {room}: {d}");
     case(report, word, WITH_I[2], kind, abi::phase_free(word, room, &expected).map(at));
