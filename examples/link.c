@@ -45,6 +45,23 @@ static void words(void)
     word("synthesise T", refusal, buf, out, "TI");
 }
 
+/* The same word, and in how many steps it was found: none where k is 0, else fewer than 2k. */
+static void steps(void)
+{
+    const int64_t h[8] = {0, 0, 0, 1, 0, 0, 0, 1}, t[8] = {0, 0, 0, 1};
+    uint8_t buf[DUNROSSEL_ENOUGH];
+    uint64_t out[4];
+    uint8_t refusal = dunrossel_synthesise_steps(0, 1, t, buf, sizeof buf, out);
+    word("synthesise T, its steps too", refusal, buf, out, "TI");
+    check("no step", out[3] == 0);
+    refusal = dunrossel_synthesise_steps(1, 4, h, buf, sizeof buf, out);
+    word("synthesise H, its steps too", refusal, buf, out, "H");
+    printf("steps=%d\n", (int)out[3]);
+    check("one step", out[3] == 1);
+    refusal = dunrossel_synthesise_steps(1, 4, h, buf, 0, out);
+    check("no step where it is refused", refusal == DUNROSSEL_ROOM && out[3] == 0);
+}
+
 /* A word's matrix, and the matrix's word: the same bytes as normalising gives. */
 static void there_and_back(void)
 {
@@ -111,7 +128,7 @@ static void numbers(void)
 
 static void bench(void)
 {
-    const char *record = "k=1\nn=4\nz=0,0,0,1\nw=0,0,0,1\n", *expected = "refusal=0\nword=H\nt=0\nbytes=1\n";
+    const char *record = "k=1\nn=4\nz=0,0,0,1\nw=0,0,0,1\n", *expected = "refusal=0\nword=H\nt=0\nbytes=1\nsteps=1\n";
     uint8_t out[512];
     size_t size = dunrossel_bench((const uint8_t *)record, strlen(record), out);
     printf("%.*s", (int)size, (const char *)out);
@@ -121,6 +138,7 @@ static void bench(void)
 int main(void)
 {
     words();
+    steps();
     there_and_back();
     again();
     circuits();

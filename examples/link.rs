@@ -13,6 +13,7 @@ mod ffi {
         pub fn dunrossel_normalise(word: *const u8, len: usize, buf: *mut u8, room: usize, out: *mut [u64; 3]) -> u8;
         pub fn dunrossel_phase_free(word: *const u8, len: usize, buf: *mut u8, room: usize, out: *mut [u64; 3]) -> u8;
         pub fn dunrossel_synthesise(k: i64, n: u8, zw: *const [i64; 8], buf: *mut u8, room: usize, out: *mut [u64; 3]) -> u8;
+        pub fn dunrossel_synthesise_steps(k: i64, n: u8, zw: *const [i64; 8], buf: *mut u8, room: usize, out: *mut [u64; 4]) -> u8;
         pub fn dunrossel_clifford_product(x: *const [i32; 4], y: *const [i32; 4], out: *mut [i32; 4]);
         pub fn dunrossel_clifford_inverse(x: *const [i32; 4], out: *mut [i32; 4]);
         pub fn dunrossel_clifford_coset(x: *const [i32; 4], out: *mut [i32; 5]);
@@ -87,6 +88,15 @@ fn synthesise(m: &Triple, room: usize) -> Result<String, Refused> {
     let (mut buf, mut out) = (vec![0; room], [0; 3]);
     let number = unsafe { ffi::dunrossel_synthesise(k, n, &zw, buf.as_mut_ptr(), room, &mut out) };
     written(number, &buf, out)
+}
+
+/// The word, and in how many steps it was found.
+fn synthesise_steps(m: &Triple, room: usize) -> Result<(String, u64), Refused> {
+    let (k, n, zw) = parts(m);
+    let (mut buf, mut out) = (vec![0; room], [0; 4]);
+    let number = unsafe { ffi::dunrossel_synthesise_steps(k, n, &zw, buf.as_mut_ptr(), room, &mut out) };
+    let [place, bytes, tees, steps] = out;
+    written(number, &buf, [place, bytes, tees]).map(|word| (word, steps))
 }
 
 /// The type that the three calls for circuits share.
@@ -169,12 +179,16 @@ fn main() {
 
     let h = matrix("H").unwrap();
     println!("H: {h:?}, {:?}", view(&h).unwrap());
+    println!("its word and steps: {:?}", synthesise_steps(&h, 1));
+    assert_eq!(synthesise_steps(&h, 1), Ok(("H".into(), 1)));
+    assert_eq!(synthesise_steps(&h, 0), Err(Refused { number: 7, place: 0 }));
+    assert_eq!(synthesise_steps(&matrix("HTSHX").unwrap(), ENOUGH), Ok(("HTSHX".into(), 2)));
     assert!((view(&h).unwrap()[0] - std::f64::consts::FRAC_1_SQRT_2).abs() < 1e-15);
     cliffords();
     there_and_back();
 
     let text = bench("k=1\nn=4\nz=0,0,0,1\nw=0,0,0,1\n");
     print!("{text}");
-    assert_eq!(text, "refusal=0\nword=H\nt=0\nbytes=1\n");
+    assert_eq!(text, "refusal=0\nword=H\nt=0\nbytes=1\nsteps=1\n");
     println!("link.rs: every answer is right");
 }

@@ -50,10 +50,10 @@ enum {
 };
 
 /* The longest word that is taken; and the room that a call never finds too small, so that it doesn't refuse 7: the least such
- * for all but dunrossel_synthesise and dunrossel_qasm2_write. */
+ * for all but dunrossel_synthesise, dunrossel_synthesise_steps and dunrossel_qasm2_write. */
 enum {
     DUNROSSEL_LETTERS = 4096,    /* the longest word, and room for a circuit's letters: dunrossel_qasm_read */
-    DUNROSSEL_ENOUGH = 376,      /* for dunrossel_synthesise */
+    DUNROSSEL_ENOUGH = 376,      /* for dunrossel_synthesise and dunrossel_synthesise_steps */
     DUNROSSEL_NORMAL = 5469,     /* for dunrossel_normalise: an answer may be longer than the word */
     DUNROSSEL_PHASE_FREE = 5464, /* for dunrossel_phase_free */
     DUNROSSEL_CIRCUIT = 57394    /* for dunrossel_qasm2_write and dunrossel_qasm3_write */
@@ -92,6 +92,13 @@ uint8_t dunrossel_phase_free(const uint8_t *word, size_t len, uint8_t *buf, size
  * Refuses 3, 4, 5, 7. */
 uint8_t dunrossel_synthesise(int64_t k, uint8_t n, const int64_t zw[8], uint8_t *buf, size_t room, uint64_t out[3]);
 
+/* Writes what dunrossel_synthesise writes, and counts the steps in which the matrix was taken apart. A step multiplies the
+ * reduced matrix by H·T^-m from the left, m from 0 to 3, and reduces it again, until k is 0: so there are none where the
+ * reduced k is 0, and never more than twice that k. A matrix that is handed in unreduced has the steps of the reduced one.
+ * out: 0, bytes written, T letters written, steps.
+ * Refuses 3, 4, 5, 7. */
+uint8_t dunrossel_synthesise_steps(int64_t k, uint8_t n, const int64_t zw[8], uint8_t *buf, size_t room, uint64_t out[4]);
+
 /* Cliffords (a,b,c,d) = E^a X^b S^c omega^d, any numbers taken; an answer has a in 0..2, b in 0..1, c in 0..3, d in 0..7.
  * E = H·S^3·omega^3, so H is (1,0,1,5) and S is (0,0,1,0). Nothing is refused. out: x times y. */
 void dunrossel_clifford_product(const int32_t x[4], const int32_t y[4], int32_t out[4]);
@@ -111,8 +118,9 @@ uint8_t dunrossel_view(int64_t k, uint8_t n, const int64_t zw[8], double out[8])
 /* What the bench program writes for a record, into out; the result is its number of bytes, those beyond are as before.
  * A record is the lines k= n= z= w=, each ended by LF, decimal numbers within 64 signed bits (n: 0 to 255), with no plus
  * sign, no leading zeros and no -0, z and w four of them parted by commas, no spaces, nothing after. The text has the lines
- * refusal= word= t= bytes=: the number of the refusal, the normal word, its T letters, its length. A refusal (8, 3, 4, 5, in
- * this order) stands in the text, with an empty word, t=0 and bytes=0. */
+ * refusal= word= t= bytes= steps=: the number of the refusal, the normal word, its T letters, its length, and the steps as
+ * dunrossel_synthesise_steps counts them. A refusal (8, 3, 4, 5, in this order) stands in the text, with an empty word, t=0,
+ * bytes=0 and steps=0. */
 size_t dunrossel_bench(const uint8_t *record, size_t len, uint8_t out[512]);
 
 /* Circuits are OpenQASM on one qubit, to the byte, an LF after each line and nothing else:

@@ -176,32 +176,65 @@ static void matrices(void)
     matrix(244, DUNROSSEL_DEEP, 4);
 }
 
-/* ---- job 4: HT 119 times has k = 60 and is its own normal word but for the I */
+/* ---- job 4, by both exports; its word is what `many` begins with */
 
-static void synthesised(const int64_t m[10], size_t room, uint8_t number)
+typedef uint8_t synthesiser(int64_t, uint8_t, const int64_t *, uint8_t *, size_t, uint64_t *);
+
+/* One export, which has so many numbers. Bytes and steps are 0 where it refuses. */
+static void by(synthesiser *job, size_t numbers, const int64_t m[10], size_t room, uint8_t number, size_t bytes, uint64_t steps)
 {
-    uint64_t out[3] = {7, 7, 7};
-    size_t bytes = number ? 0 : 239;
+    uint64_t out[5] = {7, 7, 7, 7, 7};
+    size_t tees = 0;
+    for (size_t i = 0; i < bytes; i++) tees += many[i] == 'T';
     lend();
-    uint8_t refusal = dunrossel_synthesise(m[0], (uint8_t)m[1], m + 2, lent, room, out);
-    printf("k=60, room %lu: refusal=%d bytes=%d t=%d\n", (unsigned long)room, refusal, (int)out[1], (int)out[2]);
-    check("synthesise", refusal == number && out[0] == 0 && out[1] == bytes && out[2] == bytes / 2);
+    uint8_t refusal = job(m[0], (uint8_t)m[1], m + 2, lent, room, out);
+    printf("k=%d, room %lu: refusal=%d bytes=%d t=%d", (int)m[0], (unsigned long)room, refusal, (int)out[1], (int)out[2]);
+    if (numbers > 3) printf(" steps=%d", (int)out[3]);
+    printf("\n");
+    check("synthesise", refusal == number && out[0] == 0 && out[1] == bytes && out[2] == tees);
+    check("steps", numbers < 4 || out[3] == steps);
+    check("nothing beyond the numbers", out[numbers] == 7);
     check("the word", memcmp(lent, many, bytes) == 0);
     untouched_from(bytes);
 }
 
+static void synthesised(const int64_t m[10], size_t room, uint8_t number, size_t bytes, uint64_t steps)
+{
+    by(dunrossel_synthesise, 3, m, room, number, bytes, steps);
+    by(dunrossel_synthesise_steps, 4, m, room, number, bytes, steps);
+}
+
+/* With room enough, just room enough, a byte less and none. */
+static void around(const int64_t m[10], size_t bytes, uint64_t steps)
+{
+    synthesised(m, DUNROSSEL_ENOUGH, 0, bytes, steps);
+    synthesised(m, bytes, 0, bytes, steps);
+    synthesised(m, bytes - 1, DUNROSSEL_ROOM, 0, 0);
+    synthesised(m, 0, DUNROSSEL_ROOM, 0, 0);
+}
+
+/* HT 119 times has k = 60 and is its own normal word but for the I; with no T at its end it has as many steps. */
 static void synthesis(void)
 {
+    const int64_t one[10] = {0, 0, 0, 0, 0, 1}, unreduced[10] = {60, 0, 0, 0, 0, 1 << 30}, h[10] = {1, 4, 0, 0, 0, 1, 0, 0, 0, 1};
     int64_t m[10];
     uint64_t place;
     printf("synthesise\n");
+    many[0] = 'I';
+    around(one, 1, 0);
+    around(unreduced, 1, 0);
+    many[0] = 'H';
+    around(h, 1, 1);
     for (size_t i = 0; i < 238; i++) many[i] = i % 2 ? 'T' : 'H';
+    check("deep", dunrossel_matrix(many, 236, m, &place) == 0 && m[0] == 60);
+    many[236] = 'I';
+    around(m, 237, 118);
+    many[236] = 'H';
     check("deepest", dunrossel_matrix(many, 238, m, &place) == 0 && m[0] == 60);
     many[238] = 'I';
-    synthesised(m, DUNROSSEL_ENOUGH, 0);
-    synthesised(m, 239, 0);
-    synthesised(m, 238, DUNROSSEL_ROOM);
-    synthesised(m, 0, DUNROSSEL_ROOM);
+    around(m, 239, 119);
+    check("deepest, a T less", dunrossel_matrix(many, 237, m, &place) == 0 && m[0] == 60);
+    around(m, 237, 119);
 }
 
 /* ---- jobs 1, 4 and 7 on triples that they refuse */
@@ -210,7 +243,7 @@ static void triple(const char *what, int64_t k, const int64_t zw[8], uint8_t num
 {
     int64_t ten[10];
     double view[8];
-    uint64_t out[3] = {7, 7, 7};
+    uint64_t out[3] = {7, 7, 7}, four[4] = {7, 7, 7, 7};
     memset(ten, 1, sizeof ten);
     memset(view, 1, sizeof view);
     lend();
@@ -219,9 +252,11 @@ static void triple(const char *what, int64_t k, const int64_t zw[8], uint8_t num
     check("reduce refuses", refusal == number);
     check("view refuses", dunrossel_view(k, 0, zw, view) == number);
     check("synthesise refuses", dunrossel_synthesise(k, 0, zw, lent, DUNROSSEL_ENOUGH, out) == number);
+    check("with steps too", dunrossel_synthesise_steps(k, 0, zw, lent, DUNROSSEL_ENOUGH, four) == number);
     for (int i = 0; i < 10; i++) check("numbers of a refusal are 0", ten[i] == 0);
     for (int i = 0; i < 8; i++) check("view of a refusal is 0", view[i] == 0);
     check("counts of a refusal are 0", out[0] == 0 && out[1] == 0 && out[2] == 0);
+    for (int i = 0; i < 4; i++) check("counts and steps of a refusal are 0", four[i] == 0);
     untouched_from(0);
 }
 
@@ -258,7 +293,7 @@ static void bench(const char *what, size_t len, const char *expected)
 static void records(void)
 {
     const char *right = "k=1\nn=4\nz=0,0,0,1\nw=0,0,0,1\n";
-    const char *h = "refusal=0\nword=H\nt=0\nbytes=1\n", *malformed = "refusal=8\nword=\nt=0\nbytes=0\n";
+    const char *h = "refusal=0\nword=H\nt=0\nbytes=1\nsteps=1\n", *malformed = "refusal=8\nword=\nt=0\nbytes=0\nsteps=0\n";
     printf("bench\n");
     memset(many, 0, sizeof many);
     bench("no byte", 0, malformed);
