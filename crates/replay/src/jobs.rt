@@ -72,21 +72,28 @@ fn from_gates(word: &[u8]) {
 }
 
 // The whole lent buffer stands behind the counts.
-fn written(answer: Written, lent: &[u8]) {
+fn and_lent(lent: &[u8]) {
+    text(b" ");
+    text(lent);
+}
+
+fn counts(answer: Written) {
     number(answer.refusal as u64);
     and_number(answer.place as u64);
     and_number(answer.bytes as u64);
     and_number(answer.tees as u64);
-    text(b" ");
-    text(lent);
+}
+
+fn written(answer: Written, lent: &[u8]) {
+    counts(answer);
+    and_lent(lent);
 }
 
 fn circuit(answer: qasm::Written, lent: &[u8]) {
     number(answer.refusal as u64);
     and_number(answer.place as u64);
     and_number(answer.bytes as u64);
-    text(b" ");
-    text(lent);
+    and_lent(lent);
 }
 
 fn write_circuit(edition: Edition, word: &[u8], lent: &mut [u8]) {
@@ -113,15 +120,16 @@ fn synthesise(r: Record, lent: &mut [u8]) {
     let k = r.k;
     let n = r.n;
     let answer = synthesis_of_clifford_t::synthesise(k, n, z_of(r), w_of(r), lent);
-    written(
+    counts(
         Written {
             refusal: answer.refusal,
             place: 0,
             bytes: answer.bytes,
             tees: answer.tees,
         },
-        lent,
     );
+    and_number(answer.steps as u64);
+    and_lent(lent);
 }
 
 // The oracle asks for Cliffords of i32 only.
