@@ -120,14 +120,12 @@ fn synthesise(r: Record, lent: &mut [u8]) {
     let k = r.k;
     let n = r.n;
     let answer = synthesis_of_clifford_t::synthesise(k, n, z_of(r), w_of(r), lent);
-    counts(
-        Written {
-            refusal: answer.refusal,
-            place: 0,
-            bytes: answer.bytes,
-            tees: answer.tees,
-        },
-    );
+    counts(Written {
+        refusal: answer.refusal,
+        place: 0,
+        bytes: answer.bytes,
+        tees: answer.tees,
+    });
     and_number(answer.steps as u64);
     and_lent(lent);
 }
