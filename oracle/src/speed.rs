@@ -1,7 +1,7 @@
 //! Times the library and the published Rust on the same inputs in one process, and prints tables for docs/SPEED.md.
 //! A round times both, one after the other; the ratio is taken round by round. A word that takes the Rust's SHT arm
 //! is timed as any other. OpenQASM, which the Rust has not, is timed against plain.rs. Where an earlier archive is linked
-//! too (`bench-speed` with BEFORE), job 6 is timed in both.
+//! too (`bench-speed` with BEFORE), jobs 4 and 6 are timed in both.
 
 #[allow(dead_code)]
 mod abi;
@@ -236,21 +236,30 @@ fn race_normal(
     .print();
 }
 
-/// What counting the steps costs: job 4's two exports in the same rounds.
+/// Job 4's exports, and behind them the earlier archive's, which may not count its steps at all.
+const SYNTHESES: &[(&str, Synthesis)] = &[
+    ("without steps", c::dunrossel_synthesise),
+    ("with steps", c::dunrossel_synthesise_steps),
+    #[cfg(before)]
+    ("before", library::before::dunrossel_synthesise),
+];
+
+/// What the steps cost: all of them in the same rounds, each beside the first.
 fn steps_table(random: &mut Random, lent: &Lent) {
-    println!(
-        "\n| Synthesis | without steps, us a call | with steps, us a call | with/without, median (least to most) |"
-    );
-    println!("|---|---|---|---|");
+    print!("\n| Synthesis | {}, us a call |", SYNTHESES[0].0);
+    SYNTHESES[1..].iter().for_each(|(name, _)| print!(" {name}, us a call | ratio, median (least to most) |"));
+    println!("\n|---|---|{}", "---|---|".repeat(SYNTHESES.len() - 1));
     for k in [10, 30, 60] {
         let inputs = triples(random, k, 100);
-        let side = |export: Synthesis| timed_over(&inputs, 50, |t| synthesise(black_box(export), t, lent));
-        let without = || side(c::dunrossel_synthesise);
-        let with = || side(c::dunrossel_synthesise_steps);
-        let times = rounds(&[&without, &with]);
-        let [middle, least, most] = ratios(&times[1], &times[0]);
-        let [without, with] = [0, 1].map(|i| median(&times[i]) / 1000.0);
-        println!("| synthesise, k = {k} | {without:.3} | {with:.3} | {middle:.2} ({least:.2} to {most:.2}) |");
+        let one = |export: Synthesis| timed_over(&inputs, 50, |t| synthesise(black_box(export), t, lent));
+        let sides: Vec<_> = SYNTHESES.iter().map(|(_, export)| || one(*export)).collect();
+        let times = rounds(&sides.iter().map(|side| side as &dyn Fn() -> f64).collect::<Vec<_>>());
+        print!("| synthesise, k = {k} | {:.3} |", median(&times[0]) / 1000.0);
+        for side in &times[1..] {
+            let [middle, least, most] = ratios(side, &times[0]);
+            print!(" {:.3} | {middle:.2} ({least:.2} to {most:.2}) |", median(side) / 1000.0);
+        }
+        println!();
     }
 }
 
