@@ -93,8 +93,8 @@ uint8_t dunrossel_phase_free(const uint8_t *word, size_t len, uint8_t *buf, size
 uint8_t dunrossel_synthesise(int64_t k, uint8_t n, const int64_t zw[8], uint8_t *buf, size_t room, uint64_t out[3]);
 
 /* Writes what dunrossel_synthesise writes, and counts the steps in which the matrix was taken apart. A step multiplies the
- * reduced matrix by H·T^-m from the left, m from 0 to 3, and reduces it again, until k is 0: so there are none where the
- * reduced k is 0, and never more than twice that k. A matrix that is handed in unreduced has the steps of the reduced one.
+ * reduced matrix by H·T^-m from the left, m from 0 to 3, and reduces it again, until k is 0. There are none where the reduced
+ * k is 0, else 2k-1 or 2k-2 of that k, so at most 119; a matrix that is handed in unreduced has those of the reduced one.
  * out: 0, bytes written, T letters written, steps.
  * Refuses 3, 4, 5, 7. */
 uint8_t dunrossel_synthesise_steps(int64_t k, uint8_t n, const int64_t zw[8], uint8_t *buf, size_t room, uint64_t out[4]);

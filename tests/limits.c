@@ -213,18 +213,19 @@ static void around(const int64_t m[10], size_t bytes, uint64_t steps)
     synthesised(m, 0, DUNROSSEL_ROOM, 0, 0);
 }
 
-/* HT 119 times has k = 60 and is its own normal word but for the I; with no T at its end it has as many steps. */
+/* The identity and H, reduced or not. HT 119 times has k = 60 and is its own normal word but for the I; with no T at its end
+ * it has as many steps. */
 static void synthesis(void)
 {
-    const int64_t one[10] = {0, 0, 0, 0, 0, 1}, unreduced[10] = {60, 0, 0, 0, 0, 1 << 30}, h[10] = {1, 4, 0, 0, 0, 1, 0, 0, 0, 1};
+    const int64_t one[3][10] = {{0, 0, 0, 0, 0, 1}, {1, 0, -1, 0, 1}, {60, 0, 0, 0, 0, 1 << 30}}, top = 1 << 29;
+    const int64_t h[2][10] = {{1, 4, 0, 0, 0, 1, 0, 0, 0, 1}, {60, 4, -top, 0, top, 0, -top, 0, top}};
     int64_t m[10];
     uint64_t place;
     printf("synthesise\n");
     many[0] = 'I';
-    around(one, 1, 0);
-    around(unreduced, 1, 0);
+    for (size_t i = 0; i < 3; i++) around(one[i], 1, 0);
     many[0] = 'H';
-    around(h, 1, 1);
+    for (size_t i = 0; i < 2; i++) around(h[i], 1, 1);
     for (size_t i = 0; i < 238; i++) many[i] = i % 2 ? 'T' : 'H';
     check("deep", dunrossel_matrix(many, 236, m, &place) == 0 && m[0] == 60);
     many[236] = 'I';

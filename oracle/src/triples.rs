@@ -127,8 +127,8 @@ fn steps(report: &mut Report, exact: &Matrix, letters: &[u8]) -> u64 {
         report.differs("job 4", format!("{letters}: k = {k}, {residue:04b}, {steps} steps, the Rust's {by_rust}"));
     }
     report.note(kind, 1);
-    report.most("job 4: most steps (2k are allowed, 120 at k = 60)", steps);
-    report.most("job 4: most steps at k over 0, less 2k - 2 (2 allowed)", (steps + 2).saturating_sub(2 * k.max(1)));
+    report.most("job 4: most steps (119 allowed)", steps);
+    report.most("job 4: most steps at k over 0, less 2k - 2 (1 allowed)", (steps + 2).saturating_sub(2 * k.max(1)));
     steps
 }
 
