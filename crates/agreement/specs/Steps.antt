@@ -13,8 +13,7 @@ use Rattle.exact.specs.Meaning.Lent.{Lent}
 use Rattle.unitary.specs.Meaning.{given, Answers}
 use Rattle.synthesis_of_clifford_t.specs.declared.Synthesis.{Synthesis}
 use Rattle.synthesis_of_clifford_t.specs.Unique.{synthesise-unique}
-use Rattle.synthesis_of_clifford_t.specs.Useless.{kept-in-a-refusal}
-use Rattle.synthesis_of_clifford_t.specs.OneMatrix.{one-matrix, steps-few}
+use Rattle.synthesis_of_clifford_t.specs.OneMatrix.{one-matrix, steps-refused, steps-most, steps-few}
 use Rattle.handed.specs.Meaning.{zOf, wOf, countsOf, stepsOf}
 use Rattle.dunrossel.specs.Meaning.Exports.{Synthesises}
 use Rattle.agreement.specs.Meaning.Exports.{Wrote, seen}
@@ -46,7 +45,10 @@ module _ (k : ℤ) (n : ℕ) (zw : List ℤ) (old : List ℕ) (r : Wrote) (x : S
 
   pub refused-steps : (r .0 ≡ Accepted → ⊥) → stepsIn r ≡ 0
   refused-steps f =
-      omega (arith, steps-are, kept-in-a-refusal k n (zOf zw) (wOf zw) old (job .handed) (job .buffer) (x .outcome) (λ e. f (refusal-is ∙ e)))
+      steps-are ∙ steps-refused k n (zOf zw) (wOf zw) old (job .handed) (job .buffer) (x .outcome) (λ e. f (refusal-is ∙ e))
+
+  pub exports-steps-most : stepsIn r ≤ 119
+  exports-steps-most = omega (arith, steps-are, steps-most k n (zOf zw) (wOf zw) old (job .handed) (job .buffer) (x .outcome))
 
   pub exports-steps-few : (t : Triple) → Answers (entries (given k n (zOf zw) (wOf zw))) t → stepsIn r ≤ 2 * t .k
   exports-steps-few t a = omega (arith, steps-are, steps-few k n (zOf zw) (wOf zw) old (job .handed) (job .buffer) (x .outcome) t a)

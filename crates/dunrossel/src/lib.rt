@@ -126,9 +126,9 @@ pub extern "C" fn dunrossel_synthesise_steps(
 {
     let z = handed::z_of(zw);
     let w = handed::w_of(zw);
-    let answer = synthesis_of_clifford_t::synthesise(k, n, z, w, buf);
-    handed::put_steps(answer, out);
-    answer.refusal
+    let counted = synthesis_of_clifford_t::synthesise(k, n, z, w, buf);
+    handed::put_steps(counted, out);
+    counted.refusal
 }
 
 #[no_mangle]

@@ -3,10 +3,10 @@
 use mathlib.Core.Path.{_≡_, refl, sym, _∙_, ap, ap₂, subst}
 use mathlib.Core.Bool.{Bool, true, false, not, _&&_}
 use mathlib.Core.List.{[]}
-use Prim.Native.Nat.{ℕ, zero, suc, _-_, _*_, _^_, _<_}
+use Prim.Native.Nat.{ℕ, zero, suc, _-_, _*_, _^_, _≤_, _<_}
 use native.Mathlib.Omega.{arith}
 use lib.Dec.{T, eqb}
-use lib.IntN.{ℤ, pos, _+ℤ_}
+use lib.IntN.{pos, _+ℤ_}
 use Rattle.exact.specs.Meaning.Number.{Ops, Quad, Ω, ints, omegas, addQ, root2, root2^, odd, residue}
 use Rattle.exact.specs.Meaning.Triple.{Triple, squares, crosses}
 use Rattle.exact.specs.Whole.Parity.{xr, xr-false, odd-add, odd-double}
@@ -19,7 +19,7 @@ use Rattle.exact.specs.Matrices.Least.{modEight}
 use Rattle.steps.specs.Meaning.{power, Takes}
 use Rattle.steps.specs.Residues.{odds, back, classOf, implies, everywhere, everywhere-at, classBy, class-is, even-power}
 use Rattle.steps.specs.Step.{Ready, falls, next, next-ready, explicit, fallen-divided, next-falls, next-stays}
-use Rattle.steps.specs.Step.{sums, sum-odds, classes, no-0000, not-1011, stays-0001, next-not-0001}
+use Rattle.steps.specs.Step.{sums, sum-odds, classes, no-0000, not-1011, no-other, stays-0001, next-not-0001}
 use Rattle.steps.specs.Steps.{by-steps, steps, steps-end, steps-more}
 use Rattle.steps.specs.Followed.{takes-is}
 
@@ -182,3 +182,13 @@ module _ (i : ℕ) (t : Triple) (r : Ready t) (h : Takes i t) where
 
   pub takes-1010 : 0 < t .k → residue (norm (t .z)) ≡ 0b1010 → i ≡ 2 * t .k - 2
   takes-1010 l c = takes-is i t r h ∙ exactly t r .at-1010 l c
+
+  -- there is no other residue, so they are fewer than two for each k
+  pub takes-under : 0 < t .k → i < 2 * t .k
+  takes-under l = omega (arith, no-more)
+    where
+      k-is : t .k ≡ suc (t .k - 1)
+      k-is = omega arith
+
+      no-more : 2 * t .k ≤ i → ⊥
+      no-more h = no-other t (t .k - 1) r k-is (λ c. omega (arith, takes-1010 l c)) (λ c. omega (arith, takes-0001 l c))

@@ -7,7 +7,7 @@ use Rattle.exact.specs.Meaning.Triple.{Triple}
 use Rattle.exact.specs.Matrices.Same.{Same-sym, Same-trans, Same-of}
 use Rattle.steps.specs.Meaning.{undo, power, StepTo, Takes}
 use Rattle.steps.specs.Step.{Ready, next, acts-all, next-reduces, next-ready, next-n, next-by}
-use Rattle.steps.specs.Steps.{left, left-next, by-steps, steps, steps-end, steps-more, steps-few}
+use Rattle.steps.specs.Steps.{by-steps, steps, steps-end, steps-more, steps-few}
 
 -- ---- a step
 pub step-exists : (t : Triple) → 0 < t .k → StepTo t (next t)
@@ -27,10 +27,6 @@ module _ (t s : Triple) (r : Ready t) (h : StepTo t s) where
 
   k-is : t .k ≡ suc (t .k - 1)
   k-is = omega (arith, h .over-0)
-
-  -- fewer may come
-  pub step-nearer : left s < left t
-  step-nearer = subst (λ (u : Triple). left u < left t) step-once (left-next t (t .k - 1) r k-is)
 
   step-counted : steps t ≡ suc (steps s)
   step-counted = steps-more t (t .k - 1) r k-is ∙ ap (λ u. suc (steps u)) step-once

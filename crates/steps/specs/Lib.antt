@@ -1,4 +1,5 @@
--- The steps of docs/SCOPE.md, Synthesis: why they end, what they write and how much. Proofs over the definitions of `exact`.
+-- The steps of docs/SCOPE.md, Synthesis: what a step is and how many there are (`Meaning`), why they end, what they write and how much. Proofs over
+-- these definitions and those of `exact`.
 pub mod Meaning
 pub mod Residues
 pub mod Step

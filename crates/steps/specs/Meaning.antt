@@ -5,7 +5,7 @@ use mathlib.Core.List.{List, [], _∷_}
 use Prim.Native.Nat.{ℕ, zero, suc, _+_, _-_, _<_}
 use lib.Dec.{ltb}
 use lib.ListN.{getD}
-use Rattle.exact.specs.Meaning.Number.{residue}
+use Rattle.exact.specs.Meaning.Number.{Ω, residue}
 use Rattle.exact.specs.Meaning.Matrix.{_·_, Same}
 use Rattle.exact.specs.Meaning.Word.{Letter, H, T′, word}
 use Rattle.exact.specs.Meaning.Normal.{times}
@@ -27,8 +27,11 @@ lessBy p q = cond (ltb q p) (q + 4 - p) (q - p)
 unfoldable pub powerBy : ℕ → ℕ → ℕ
 powerBy z w = lessBy (bitShift z) (bitShift w)
 
+abbrev pub powerOf : Ω → Ω → ℕ
+powerOf z w = powerBy (residue z) (residue w)
+
 abbrev pub power : Triple → ℕ
-power t = powerBy (residue (t .z)) (residue (t .w))
+power t = powerOf (t .z) (t .w)
 
 -- ---- a step
 -- H·T^-m; the eighth power of T is the identity

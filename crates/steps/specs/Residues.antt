@@ -18,7 +18,7 @@ use Rattle.exact.specs.Algebra.Solver.{Expr, ⊖, exprs}
 use Rattle.exact.specs.Algebra.Omega.{quad-path, X₀, parts, solveQ}
 use Rattle.exact.specs.Algebra.Norm.{norm, norm-is, norm-residue, normResidue, all-parities}
 use Rattle.exact.specs.Algebra.Over.{divides}
-use Rattle.steps.specs.Meaning.{bitShifts, bitShift, lessBy, powerBy}
+use Rattle.steps.specs.Meaning.{bitShifts, bitShift, lessBy, powerBy, powerOf}
 
 -- ---- how many parities are odd, by residue
 abbrev pub bitCounts : List ℕ
@@ -172,9 +172,6 @@ back-odds (suc (suc (suc (suc m)))) x h = absurd (omega arith)
 -- ---- the same of ring numbers
 divides-odds : (x : Ω) → divides x ≡ dividesOf (odds x)
 divides-odds x = ap₂ (λ p q. not p && not q) (odd-add (x .b) (x .d)) (odd-add (x .c) (x .a))
-
-abbrev pub powerOf : Ω → Ω → ℕ
-powerOf z w = powerBy (residue z) (residue w)
 
 abbrev pub fallsOf : Ω → Ω → Bool
 fallsOf z w = fallsBy (residue z) (residue w)

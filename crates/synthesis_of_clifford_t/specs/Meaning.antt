@@ -42,7 +42,7 @@ pub record SpellingOf (m : Matrix) (a : Spelling) : Type 0 where
   pub normal : NormalOf m (a .letters)
   pub counted : StepsOf m (a .steps)
 
--- ---- refusals 3, 4, 5 and 7, or the normal word with the triple's matrix, written
+-- ---- refusals 3, 4, 5 and 7, or the normal word with the triple's matrix, written, and its steps
 module _ (k : ℤ) (n : ℕ) (z w : ZOmega) (old : List ℕ) where
   abbrev pub asked : Matrix
   asked = entries (given k n z w)

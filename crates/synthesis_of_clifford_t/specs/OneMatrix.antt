@@ -1,26 +1,29 @@
--- Job 4's outcomes by the matrix alone: at most two steps for each reduced k, and how many exactly; and triples with one matrix, however they are
+-- Job 4's outcomes by the matrix alone: at most two steps for each reduced k, 119 in all, and how many exactly; and triples with one matrix, however they are
 -- written and whatever memory is lent, get the same word and the same numbers. Assumes nothing.
-use mathlib.Core.Path.{_≡_, sym, _∙_, ap}
+use mathlib.Core.Path.{_≡_, refl, sym, _∙_, ap}
 use mathlib.Core.List.{List}
-use Prim.Native.Nat.{ℕ, _-_, _*_, _≤_, _<_}
+use Prim.Native.Nat.{ℕ, zero, suc, _-_, _*_, _≤_, _<_}
 use native.Mathlib.Omega.{arith}
-use lib.IntN.{ℤ}
+use lib.IntN.{ℤ, natAbs}
 use lib.ListN.{take}
 use Rattle.exact.specs.Meaning.Number.{residue}
 use Rattle.exact.specs.Meaning.Matrix.{Same}
 use Rattle.exact.specs.Meaning.Triple.{Triple}
-use Rattle.exact.specs.Meaning.Limits.{Accepted}
+use Rattle.exact.specs.Meaning.Limits.{deepest, Accepted}
 use Rattle.exact.specs.Meaning.Lent.{Lent, lent, untouched, Writes}
 use Rattle.exact.specs.Cases.Letters.{bytes-length}
 use Rattle.exact.specs.Algebra.Norm.{norm}
 use Rattle.exact.specs.Outcomes.Ladder.{accepted, always}
+use Rattle.exact.specs.Outcomes.Checked.{checks-taken}
 use Rattle.exact.specs.Outcomes.Lent.{text-there}
+use Rattle.ring.specs.Meaning.{quad}
 use Rattle.ring.specs.declared.ZOmega.{ZOmega}
 use Rattle.unitary.specs.Meaning.{Answers}
+use Rattle.unitary.specs.Checks.{exponent-size}
 use Rattle.steps.specs.Meaning.{Takes}
 use Rattle.steps.specs.Step.{Ready}
 use Rattle.steps.specs.Followed.{takes-few}
-use Rattle.steps.specs.Exactly.{takes-0001, takes-1010}
+use Rattle.steps.specs.Exactly.{takes-0001, takes-1010, takes-under}
 use Rattle.synthesis_of_clifford_t.specs.declared.Synthesis.{Synthesis}
 use Rattle.synthesis_of_clifford_t.specs.Meaning.{Spelling, text, refused, counts, SpellingOf, asked, refusals, SynthesiseOutcome}
 use Rattle.synthesis_of_clifford_t.specs.Counted.{answer-ready, steps-from, spelling-moved, one-spelling}
@@ -41,6 +44,38 @@ module _ (k : ℤ) (n : ℕ) (z w : ZOmega) (old : List ℕ) (r : Synthesis) (ne
       ap seen (y .is)
       ∙ (λ i. (counts (y .v), text-there (text (y .v)) old (counts (y .v) .bytes) (sym (bytes-length (y .v .letters))) i))
 
+  -- refused, there are none
+  pub steps-refused : (r .refusal ≡ Accepted → ⊥) → r .steps ≡ 0
+  steps-refused =
+      always (untouched refused old) (Writes text counts (SpellingOf (asked k n z w old)) old)
+      (λ (j : Lent Synthesis). (j .handed .refusal ≡ Accepted → ⊥) → j .handed .steps ≡ 0) (λ m p f. refl) (refusals k n z w old)
+      (λ h j y f. absurd (f (ap (λ (x : Lent Synthesis). x .handed .refusal) (y .is)))) (lent r new) o
+
+  -- and never more than 119, since k is at most 60
+  pub steps-most : r .steps ≤ 2 * deepest - 1
+  steps-most =
+      always (untouched refused old) (Writes text counts (SpellingOf (asked k n z w old)) old)
+      (λ (j : Lent Synthesis). j .handed .steps ≤ 2 * deepest - 1) (λ m p. omega arith) (refusals k n z w old)
+      (λ h j y.
+      rw (y .is)
+      (few (y .v) (y .answer) (exponent-size k (checks-taken k (quad z) (quad w) (h .0, (h .1 .0, (h .1 .1 .0, tt))) .exponent-in)))) (lent r new) o
+    where
+      few : (a : Spelling) → SpellingOf (asked k n z w old) a → natAbs k ≤ deepest → a .steps ≤ 2 * deepest - 1
+      few a s l = go (t .k) refl
+        where
+          t : Triple
+          t = s .counted .start
+
+          again : Ready t
+          again = answer-ready (asked k n z w old) (a .letters) (s .normal .same) t (s .counted .reduced)
+
+          low : t .k ≤ deepest
+          low = omega (arith, s .counted .reduced .reduced .least .least (asked k n z w old) (s .counted .reduced .same))
+
+          go : (m : ℕ) → t .k ≡ m → a .steps ≤ 2 * deepest - 1
+          go zero e = omega (arith, takes-few (a .steps) t again (s .counted .takes))
+          go (suc m) e = omega (arith, low, takes-under (a .steps) t again (s .counted .takes) (omega (arith, e)))
+
   -- ---- t is the reduced triple
   module _ (t : Triple) (a : Answers (asked k n z w old) t) where
     ready : (s : Spelling) → SpellingOf (asked k n z w old) s → Ready t
@@ -54,6 +89,12 @@ module _ (k : ℤ) (n : ℕ) (z w : ZOmega) (old : List ℕ) (r : Synthesis) (ne
         always (untouched refused old) (Writes text counts (SpellingOf (asked k n z w old)) old) (λ (j : Lent Synthesis). j .handed .steps ≤ 2 * t .k)
         (λ m p. omega arith) (refusals k n z w old)
         (λ h j y. rw (y .is) (takes-few (y .v .steps) t (ready (y .v) (y .answer)) (takes (y .v) (y .answer)))) (lent r new) o
+
+    pub steps-under : 0 < t .k → r .steps < 2 * t .k
+    steps-under more =
+        always (untouched refused old) (Writes text counts (SpellingOf (asked k n z w old)) old) (λ (j : Lent Synthesis). j .handed .steps < 2 * t .k)
+        (λ m p. omega arith) (refusals k n z w old)
+        (λ h j y. rw (y .is) (takes-under (y .v .steps) t (ready (y .v) (y .answer)) (takes (y .v) (y .answer)) more)) (lent r new) o
 
     pub steps-at-0 : t .k ≡ 0 → r .steps ≡ 0
     steps-at-0 e = omega (arith, steps-few)

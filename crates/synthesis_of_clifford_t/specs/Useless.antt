@@ -16,7 +16,7 @@ use Rattle.exact.specs.Cases.Letters.{bytes-length}
 use Rattle.exact.specs.Cases.NormalTest.{normalTest, normal-by}
 use Rattle.exact.specs.Matrices.Least.{reduce, reduce-reduces}
 use Rattle.exact.specs.Matrices.Test.{sameTest, same-by}
-use Rattle.exact.specs.Outcomes.Ladder.{answered, always}
+use Rattle.exact.specs.Outcomes.Ladder.{answered}
 use Rattle.exact.specs.Outcomes.Checked.{Taken, taken-checks}
 use Rattle.exact.specs.Outcomes.Lent.{handed-same}
 use Rattle.ring.specs.Meaning.{quad}
@@ -32,6 +32,7 @@ use Rattle.steps.specs.Synthesised.{reduce-ready}
 use Rattle.synthesis_of_clifford_t.specs.Meaning.{Spelling, text, refused, counts, SpellingOf, asked, refusals, SynthesiseOutcome}
 use Rattle.synthesis_of_clifford_t.specs.Counted.{steps-of, steps-moved, one-spelling}
 use Rattle.synthesis_of_clifford_t.specs.Unique.{synthesise-unique}
+use Rattle.synthesis_of_clifford_t.specs.OneMatrix.{steps-refused}
 
 abbrev number : ℤ → ℤ → ℤ → ℤ → ZOmega
 number a b c d = record { a = a; b = b; c = c; d = d }
@@ -49,7 +50,9 @@ module _ (k : ℤ) (n : ℕ) (z w : ZOmega) (v : List Letter) (old : List ℕ) (
   right : SpellingOf (asked k n z w old) answer
   right = record {
     normal = record { normal = normal-by v normal; same = same-by (asked k n z w old) (word v) same };
-    counted = steps-moved (reduce-reduces t .same) (steps (reduce t)) (steps-of (reduce t) (reduce-ready t (taken .unitary-there n)) (reduce-reduces t .n-small));
+    counted =
+        steps-moved (reduce-reduces t .same) (steps (reduce t))
+        (steps-of (reduce t) (reduce-ready t (taken .unitary-there n)) (reduce-reduces t .n-small));
   }
 
   has-room : (p : ℕ) → TooMany text (SpellingOf (asked k n z w old)) old × (p ≡ 0) → ⊥
@@ -108,12 +111,15 @@ two-taken =
       unitary-there = λ n. record { squares-sum = refl; crosses-sum = refl };
     }
 
-pub one-step : (new : List ℕ) → SynthesiseOutcome (pos 2) 2 twoZ twoW (replicate {A = ℕ} 5 0) (counts (record { letters = block (power twoSteps); steps = 1 })) new → ⊥
+abbrev stopped : Synthesis
+stopped = counts (record { letters = block (power twoSteps); steps = 1 })
+
+pub one-step : (new : List ℕ) → SynthesiseOutcome (pos 2) 2 twoZ twoW (replicate {A = ℕ} 5 0) stopped new → ⊥
 unfolding powerBy
 one-step new o =
     let e : _≡_ {A = ℕ} 1 5 =
     ap (λ (r : Synthesis). r .bytes)
-    (only (pos 2) 2 twoZ twoW (H ∷ T′ ∷ H ∷ T′ ∷ I ∷ []) (replicate {A = ℕ} 5 0) two-taken tt tt (omega arith) (counts (record { letters = block (power twoSteps); steps = 1 })) new o) in
+    (only (pos 2) 2 twoZ twoW (H ∷ T′ ∷ H ∷ T′ ∷ I ∷ []) (replicate {A = ℕ} 5 0) two-taken tt tt (omega arith) stopped new o) in
     omega arith
 
 -- ---- T: the letter T before normalising, and TI
@@ -175,7 +181,4 @@ module _ (k : ℤ) (n : ℕ) (z w : ZOmega) (old : List ℕ) (r : Synthesis) (ne
       omega (arith, ap (λ (x : Lent Synthesis). x .handed .steps) (synthesise-unique k n z w old r new _ new′ o p))
 
   pub kept-in-a-refusal : (r .refusal ≡ 0 → ⊥) → 0 < r .steps → ⊥
-  kept-in-a-refusal f more =
-      always (untouched refused old) (Writes text counts (SpellingOf (asked k n z w old)) old)
-      (λ (x : Lent Synthesis). (x .handed .refusal ≡ 0 → ⊥) → 0 < x .handed .steps → ⊥) (λ m p g h. omega arith) (refusals k n z w old)
-      (λ h x y g l. g (ap (λ (q : Lent Synthesis). q .handed .refusal) (y .is))) (lent r new) o f more
+  kept-in-a-refusal f more = omega (arith, steps-refused k n z w old r new o f)

@@ -233,7 +233,7 @@ fn refused(number: u8) -> Synthesis
     }
 }
 
-// The normal word of a reduced triple.
+// The normal word of a reduced triple, and the steps to it.
 fn answer(t: DOmegaUnitary, buf: &mut [u8]) -> Synthesis
     requires { ⌜ Good t ⌝ ∗ ⌜ t .k ≤ deepest ⌝ }
     ensures { λ r. ⌜ AnsweredBy (triple t) (now (buf .entry)) r (now (buf .exit)) ⌝ }
@@ -253,7 +253,7 @@ fn answer(t: DOmegaUnitary, buf: &mut [u8]) -> Synthesis
     }
 }
 
-// Job 4: the normal word whose matrix is the triple's. An unreduced triple is reduced first.
+// Job 4: the normal word whose matrix is the triple's, and the steps to it. An unreduced triple is reduced first.
 pub fn synthesise(k: i64, n: u8, z: ZOmega, w: ZOmega, buf: &mut [u8]) -> Synthesis
     ensures { λ r. ⌜ SynthesiseOutcome k n z w (now (buf .entry)) r (now (buf .exit)) ⌝ }
 {

@@ -13,7 +13,7 @@ use Rattle.normal_form.specs.Meaning.{Normalises}
 use Rattle.handed.specs.Meaning.{countsOf}
 use Rattle.dunrossel.specs.Meaning.Exports.{Writes, Multiplies, Synthesises}
 
--- what a writing export leaves: the refusal; place, bytes and T letters; the lent bytes at the end
+-- what a writing export leaves: the refusal; place, bytes, T letters and, of dunrossel_synthesise_steps, steps; the lent bytes at the end
 abbrev pub Wrote : Type 0
 Wrote = ℕ × (List ℕ × List ℕ)
 

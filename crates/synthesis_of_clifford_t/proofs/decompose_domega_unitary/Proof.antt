@@ -4,7 +4,8 @@ use native.Mathlib.Omega.{arith}
 use Rattle.unitary.specs.Meaning.{triple}
 use Rattle.steps.specs.Steps.{left}
 use Rattle.synthesis_of_clifford_t.specs.Parts.{Writing, writing-start, still-good, still-few, len-inside, length-kept, block-fits}
-use Rattle.synthesis_of_clifford_t.specs.Parts.{count-fits, not-ended, step-few, step-nearer, step-room, step-writing, end-room, end-fits, end-put, end-steps}
+use Rattle.synthesis_of_clifford_t.specs.Parts.{count-fits, not-ended, step-few, step-nearer, step-room, step-writing}
+use Rattle.synthesis_of_clifford_t.specs.Parts.{end-room, end-fits, end-put, end-steps}
 use borrow.Author.Needs.{needs}
 use Rattle.synthesis_of_clifford_t.proofs.decompose_domega_unitary.Statement.{statement}
 use Rattle.synthesis_of_clifford_t.proofs.decompose_domega_unitary.Tie as tie
