@@ -45,7 +45,7 @@ static void words(void)
     word("synthesise T", refusal, buf, out, "TI");
 }
 
-/* The same word, and in how many steps it was found: none where k is 0, else fewer than 2k. */
+/* The same word, and in how many steps it was found: none where the reduced k is 0, else fewer than twice that k. */
 static void steps(void)
 {
     const int64_t h[8] = {0, 0, 0, 1, 0, 0, 0, 1}, t[8] = {0, 0, 0, 1};

@@ -94,7 +94,8 @@ uint8_t dunrossel_synthesise(int64_t k, uint8_t n, const int64_t zw[8], uint8_t 
 
 /* Writes what dunrossel_synthesise writes, and counts the steps in which the matrix was taken apart. A step multiplies the
  * reduced matrix by H·T^-m from the left, m from 0 to 3, and reduces it again, until k is 0. There are none where the reduced
- * k is 0, else 2k-1 or 2k-2 of that k, so at most 119; a matrix that is handed in unreduced has those of the reduced one.
+ * k is 0, else 2k-1 of that k where the squares of the reduced z's four numbers sum to an odd number, and 2k-2 where to an even
+ * one; so at most 119. A matrix that is handed in unreduced has the steps of the reduced one.
  * out: 0, bytes written, T letters written, steps.
  * Refuses 3, 4, 5, 7. */
 uint8_t dunrossel_synthesise_steps(int64_t k, uint8_t n, const int64_t zw[8], uint8_t *buf, size_t room, uint64_t out[4]);

@@ -214,7 +214,7 @@ static void around(const int64_t m[10], size_t bytes, uint64_t steps)
 }
 
 /* The identity and H, reduced or not. HT 119 times has k = 60 and is its own normal word but for the I; with no T at its end
- * it has as many steps. */
+ * it has as many steps; HT 118 times has that k too, and a step less. */
 static void synthesis(void)
 {
     const int64_t one[3][10] = {{0, 0, 0, 0, 0, 1}, {1, 0, -1, 0, 1}, {60, 0, 0, 0, 0, 1 << 30}}, top = 1 << 29;

@@ -97,7 +97,7 @@ pub fn all(report: &mut Report) {
     );
     say(
         report,
-        "listed: the identity at k = 2 takes the Rust's loop two steps, HH, and none here, where it is reduced first",
+        "listed: the identity at k = 2 takes two of the Rust's steps, HH, and none here, where it is reduced first",
         rust::letters(2, 0, &twice).as_deref() == Some(b"HH")
             && abi::synthesise_steps(&(2, 0, twice), 1, &word("I")).is_none(),
     );

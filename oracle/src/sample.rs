@@ -226,7 +226,6 @@ fn pairs(s: &mut Sample) {
 
 /// Every k, n and tail, raised and damaged triples, and each limit.
 fn all_triples(s: &mut Sample) {
-    let big = 1i64 << 30;
     let one = [0, 0, 0, 1, 0, 0, 0, 0];
     for t in 0..=1 {
         for front in inputs::syllables(t) {
@@ -254,6 +253,12 @@ fn all_triples(s: &mut Sample) {
         s.triple(&(up.0, n, up.2), 0);
         up = raised(up);
     }
+    edge_triples(s);
+}
+
+/// Either side of each limit, and triples that aren't unitary.
+fn edge_triples(s: &mut Sample) {
+    let big = 1i64 << 30;
     for k in [i64::MIN, -1, 0, 60, 61, i64::MAX] {
         for x in [i64::MIN, -big - 1, -big, big, big + 1, i64::MAX] {
             for at in [0, 3, 4, 7] {

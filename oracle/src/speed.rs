@@ -247,7 +247,7 @@ const SYNTHESES: &[(&str, Synthesis)] = &[
 /// What the steps cost: all of them in the same rounds, each beside the first.
 fn steps_table(random: &mut Random, lent: &Lent) {
     print!("\n| Synthesis | {}, us a call |", SYNTHESES[0].0);
-    SYNTHESES[1..].iter().for_each(|(name, _)| print!(" {name}, us a call | ratio, median (least to most) |"));
+    SYNTHESES[1..].iter().for_each(|(name, _)| print!(" {name}, us a call | to the first, median (least to most) |"));
     println!("\n|---|---|{}", "---|---|".repeat(SYNTHESES.len() - 1));
     for k in [10, 30, 60] {
         let inputs = triples(random, k, 100);

@@ -111,7 +111,7 @@ pub fn synthesised(report: &mut Report, numbers: &[i64; 10]) -> Written {
     Written { steps: steps(report, &exact, &letters), ..Written::of(&word) }
 }
 
-/// The steps of a reduced triple: by exact arithmetic, by the Rust, which writes an H at each, and by k and z·z* alone.
+/// The steps of a reduced triple: by exact arithmetic, by the Rust's step, which writes an H each time, and by k and z·z* alone.
 fn steps(report: &mut Report, exact: &Matrix, letters: &[u8]) -> u64 {
     let steps = exact.steps();
     let by_rust = letters.iter().filter(|g| **g == b'H').count() as u64;
