@@ -55,7 +55,8 @@ module _ (k : ℤ) (n : ℕ) (z w : ZOmega) (old : List ℕ) (r : Synthesis) (ne
   bytes-written : take (r .bytes) new ≡ Job4.text (answer-of .v)
   bytes-written = ap (λ (s : Synthesis × List ℕ). s .1) (seen-is k n z w old r new o answer-of)
 
-  pub synthesised-again : (old′ : List ℕ) → r .bytes ≤ length old′ → (r′ : Written) (new′ : List ℕ) → NormaliseOutcome (take (r .bytes) new) old′ r′ new′
+  pub synthesised-again : (old′ : List ℕ) → r .bytes ≤ length old′ → (r′ : Written) (new′ : List ℕ)
+      → NormaliseOutcome (take (r .bytes) new) old′ r′ new′
       → lent r′ new′ ≡ handedOn (lent r (over (take (r .bytes) new) old′))
   synthesised-again old′ l r′ new′ o′ =
       normal-again (answer-of .answer .normal .normal) (omega (arith, size, bytes-few k n z w old r new o)) old′ (omega (arith, size)) r′ new′
@@ -73,7 +74,8 @@ textOf r = seen r .1 .1
 -- handed to a call that has room for them they are left again, and so are the counts
 abbrev pub GivenBack : (List Letter → List Letter → Type 0) → Wrote → Type 0
 GivenBack Next r =
-    (old : List ℕ) → length (textOf r) ≤ length old → (r′ : Wrote) → Writes Next (textOf r) old r′ → r′ ≡ (r .0, (r .1 .0, over (textOf r) old))
+    (old : List ℕ) → length (textOf r) ≤ length old → (r′ : Wrote) → Writes Next (textOf r) old r′
+    → r′ ≡ (r .0, (r .1 .0, over (textOf r) old))
 
 pub exports-synthesised-again : (k : ℤ) (n : ℕ) (zw : List ℤ) (old : List ℕ) (r : Wrote) → Synthesises countsOf k n zw old r
     → r .0 ≡ Accepted

@@ -25,7 +25,8 @@ stepsIn r = getD (r .1 .0) 3 0
 abbrev pub withoutSteps : Wrote → Wrote
 withoutSteps r = (r .0, (take 3 (r .1 .0), r .1 .1))
 
-pub both-synthesise : (k : ℤ) (n : ℕ) (zw : List ℤ) (old : List ℕ) (r s : Wrote) → Synthesises countsOf k n zw old r → Synthesises stepsOf k n zw old s
+pub both-synthesise : (k : ℤ) (n : ℕ) (zw : List ℤ) (old : List ℕ) (r s : Wrote)
+    → Synthesises countsOf k n zw old r → Synthesises stepsOf k n zw old s
     → r ≡ withoutSteps s
 both-synthesise k n zw old r s x y =
     x .is

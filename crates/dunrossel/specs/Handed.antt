@@ -54,7 +54,8 @@ module _ (k : ℤ) {z w : ZOmega} (zw : List ℤ) (fits : SFits w64 k) (z-is : z
         record { job = lent j new; outcome = as-given (λ k z w. SynthesiseOutcome k n z w old j new) o; is = λ i. (j .refusal, (e i, new)) }
 
 -- ---- words
-pub multiplies : (w : List ℕ) (j : FromGates) (out : List ℤ) → MatrixOutcome w j → out ≡ ten (j .matrix) → Multiplies w (j .refusal, (out, j .place))
+pub multiplies : (w : List ℕ) (j : FromGates) (out : List ℤ) → MatrixOutcome w j → out ≡ ten (j .matrix)
+    → Multiplies w (j .refusal, (out, j .place))
 multiplies w j out o e = record { job = j; outcome = o; is = λ i. (j .refusal, (e i, j .place)) }
 
 pub writes : (Answer : List Letter → List Letter → Type 0) (w old new : List ℕ) (j : Written) (out : List ℕ) → WordOutcome Answer w old j new

@@ -3,7 +3,7 @@
 use mathlib.Core.Path.{_≡_, refl, sym, _∙_, ap, ap₂, subst}
 use mathlib.Core.Bool.{Bool, true, false, not, _&&_}
 use mathlib.Core.List.{[]}
-use Prim.Native.Nat.{ℕ, zero, suc, _-_, _*_, _^_, _≤_, _<_}
+use Prim.Native.Nat.{ℕ, zero, suc, _-_, _*_, _^_, _<_}
 use native.Mathlib.Omega.{arith}
 use lib.Dec.{T, eqb}
 use lib.IntN.{pos, _+ℤ_}
@@ -19,7 +19,7 @@ use Rattle.exact.specs.Matrices.Least.{modEight}
 use Rattle.steps.specs.Meaning.{power, Takes}
 use Rattle.steps.specs.Residues.{odds, back, classOf, implies, everywhere, everywhere-at, classBy, class-is, even-power}
 use Rattle.steps.specs.Step.{Ready, falls, next, next-ready, explicit, fallen-divided, next-falls, next-stays}
-use Rattle.steps.specs.Step.{sums, sum-odds, classes, no-0000, not-1011, no-other, stays-0001, next-not-0001}
+use Rattle.steps.specs.Step.{sums, sum-odds, classes, no-0000, not-1011, stays-0001, next-not-0001}
 use Rattle.steps.specs.Steps.{by-steps, steps, steps-end, steps-more}
 use Rattle.steps.specs.Followed.{takes-is}
 
@@ -56,6 +56,18 @@ sum-not-1010 x y e f g =
   where
     told : (i j l : ℕ) → i ≡ 10 → j ≡ 10 → l ≡ 10 → T (implies (eqb i 10 && eqb j 10) (not (eqb l 10))) → ⊥
     told i j l e f g t = rw (e, f, g) at t
+
+-- ---- where k is over 0 the residue is one of two
+two-residues : {A : Type 0} (t : Triple) (k : ℕ) → Ready t → t .k ≡ suc k → (residue (norm (t .z)) ≡ 0b0001 → A)
+    → (residue (norm (t .z)) ≡ 0b1010 → A)
+    → A
+two-residues {A} t k r e f g = go (odd (crosses ints (t .z))) (odd (squares ints (t .z))) (class-is (t .z))
+  where
+    go : (p q : Bool) → residue (norm (t .z)) ≡ classBy p q → A
+    go true true c = absurd (not-1011 t k r e c)
+    go true false c = g c
+    go false true c = f c
+    go false false c = absurd (no-0000 t k r e c)
 
 -- ---- a step that lowers k
 module _ (t : Triple) (k : ℕ) (r : Ready t) (e : t .k ≡ suc k) where
@@ -104,38 +116,18 @@ module _ (t : Triple) (k : ℕ) (r : Ready t) (e : t .k ≡ suc k) where
           go false c = absurd (no-0000 t k r e c)
 
       next-0001 : residue (norm (next t .z)) ≡ 0b0001
-      next-0001 = go (odd (crosses ints (next t .z))) (odd (squares ints (next t .z))) (class-is (next t .z))
-        where
-          again : Ready (next t)
-          again = next-ready (r .unitary)
-
-          at-j : next t .k ≡ suc j
-          at-j = k-is ∙ h
-
-          go : (p q : Bool) → residue (norm (next t .z)) ≡ classBy p q → residue (norm (next t .z)) ≡ 0b0001
-          go true true c = absurd (not-1011 (next t) j again at-j c)
-          go true false c =
-              absurd
-              (sum-not-1010 (next t .z) (next t .w) c (sym (classes (next t) j again at-j) ∙ c)
-              (ap (λ x. residue (norm x)) sum-is ∙ falls-1010))
-          go false true c = c
-          go false false c = absurd (no-0000 (next t) j again at-j c)
+      next-0001 =
+          two-residues (next t) j (next-ready (r .unitary)) (k-is ∙ h) (λ c. c)
+          (λ c.
+          absurd
+          (sum-not-1010 (next t .z) (next t .w) c (sym (classes (next t) j (next-ready (r .unitary)) (k-is ∙ h)) ∙ c)
+          (ap (λ x. residue (norm x)) sum-is ∙ falls-1010)))
 
   -- ---- one that leaves it, from 0001 alone, and then comes 1010
   next-1010 : falls t ≡ false → residue (norm (next t .z)) ≡ 0b1010
-  next-1010 f = go (odd (crosses ints (next t .z))) (odd (squares ints (next t .z))) (class-is (next t .z))
-    where
-      again : Ready (next t)
-      again = next-ready (r .unitary)
-
-      at-k : next t .k ≡ suc k
-      at-k = ap (λ s. s .k) (next-stays t k r e f) ∙ e
-
-      go : (p q : Bool) → residue (norm (next t .z)) ≡ classBy p q → residue (norm (next t .z)) ≡ 0b1010
-      go true true c = absurd (not-1011 (next t) k again at-k c)
-      go true false c = c
-      go false true c = absurd (next-not-0001 t k r e f c)
-      go false false c = absurd (no-0000 (next t) k again at-k c)
+  next-1010 f =
+      two-residues (next t) k (next-ready (r .unitary)) (ap (λ s. s .k) (next-stays t k r e f) ∙ e) (λ c. absurd (next-not-0001 t k r e f c))
+      (λ c. c)
 
 -- ---- counted
 pub record Exactly (t : Triple) : Type 0 where
@@ -183,12 +175,7 @@ module _ (i : ℕ) (t : Triple) (r : Ready t) (h : Takes i t) where
   pub takes-1010 : 0 < t .k → residue (norm (t .z)) ≡ 0b1010 → i ≡ 2 * t .k - 2
   takes-1010 l c = takes-is i t r h ∙ exactly t r .at-1010 l c
 
-  -- there is no other residue, so they are fewer than two for each k
+  -- so they are fewer than two for each k
   pub takes-under : 0 < t .k → i < 2 * t .k
-  takes-under l = omega (arith, no-more)
-    where
-      k-is : t .k ≡ suc (t .k - 1)
-      k-is = omega arith
-
-      no-more : 2 * t .k ≤ i → ⊥
-      no-more h = no-other t (t .k - 1) r k-is (λ c. omega (arith, takes-1010 l c)) (λ c. omega (arith, takes-0001 l c))
+  takes-under l =
+      two-residues t (t .k - 1) r (omega arith) (λ c. omega (arith, takes-0001 l c)) (λ c. omega (arith, takes-1010 l c))

@@ -1,6 +1,6 @@
 -- Job 4's outcomes by the matrix alone: at most two steps for each reduced k, 119 in all, and how many exactly; and triples with one matrix, however they are
 -- written and whatever memory is lent, get the same word and the same numbers. Assumes nothing.
-use mathlib.Core.Path.{_≡_, refl, sym, _∙_, ap}
+use mathlib.Core.Path.{_≡_, refl, sym, _∙_, ap, subst}
 use mathlib.Core.List.{List}
 use Prim.Native.Nat.{ℕ, zero, suc, _-_, _*_, _≤_, _<_}
 use native.Mathlib.Omega.{arith}
@@ -13,7 +13,7 @@ use Rattle.exact.specs.Meaning.Limits.{deepest, Accepted}
 use Rattle.exact.specs.Meaning.Lent.{Lent, lent, untouched, Writes}
 use Rattle.exact.specs.Cases.Letters.{bytes-length}
 use Rattle.exact.specs.Algebra.Norm.{norm}
-use Rattle.exact.specs.Outcomes.Ladder.{accepted, always}
+use Rattle.exact.specs.Outcomes.Ladder.{Passed, accepted, always}
 use Rattle.exact.specs.Outcomes.Checked.{checks-taken}
 use Rattle.exact.specs.Outcomes.Lent.{text-there}
 use Rattle.ring.specs.Meaning.{quad}
@@ -44,21 +44,23 @@ module _ (k : ℤ) (n : ℕ) (z w : ZOmega) (old : List ℕ) (r : Synthesis) (ne
       ap seen (y .is)
       ∙ (λ i. (counts (y .v), text-there (text (y .v)) old (counts (y .v) .bytes) (sym (bytes-length (y .v .letters))) i))
 
+  -- what holds of the numbers of every refusal and of every answer
+  each : (P : Synthesis → Type 0) → ((m p : ℕ) → P (refused m p))
+      → (Passed (refusals k n z w old) → (a : Spelling) → SpellingOf (asked k n z w old) a → P (counts a))
+      → P r
+  each P f g =
+      always (untouched refused old) (Writes text counts (SpellingOf (asked k n z w old)) old) (λ (j : Lent Synthesis). P (j .handed)) f
+      (refusals k n z w old) (λ h j y. subst (λ (x : Lent Synthesis). P (x .handed)) (sym (y .is)) (g h (y .v) (y .answer))) (lent r new) o
+
   -- refused, there are none
   pub steps-refused : (r .refusal ≡ Accepted → ⊥) → r .steps ≡ 0
-  steps-refused =
-      always (untouched refused old) (Writes text counts (SpellingOf (asked k n z w old)) old)
-      (λ (j : Lent Synthesis). (j .handed .refusal ≡ Accepted → ⊥) → j .handed .steps ≡ 0) (λ m p f. refl) (refusals k n z w old)
-      (λ h j y f. absurd (f (ap (λ (x : Lent Synthesis). x .handed .refusal) (y .is)))) (lent r new) o
+  steps-refused = each (λ s. (s .refusal ≡ Accepted → ⊥) → s .steps ≡ 0) (λ m p f. refl) (λ h a s f. absurd (f refl))
 
   -- and never more than 119, since k is at most 60
   pub steps-most : r .steps ≤ 2 * deepest - 1
   steps-most =
-      always (untouched refused old) (Writes text counts (SpellingOf (asked k n z w old)) old)
-      (λ (j : Lent Synthesis). j .handed .steps ≤ 2 * deepest - 1) (λ m p. omega arith) (refusals k n z w old)
-      (λ h j y.
-      rw (y .is)
-      (few (y .v) (y .answer) (exponent-size k (checks-taken k (quad z) (quad w) (h .0, (h .1 .0, (h .1 .1 .0, tt))) .exponent-in)))) (lent r new) o
+      each (λ s. s .steps ≤ 2 * deepest - 1) (λ m p. omega arith)
+      (λ h a s. few a s (exponent-size k (checks-taken k (quad z) (quad w) (h .0, (h .1 .0, (h .1 .1 .0, tt))) .exponent-in)))
     where
       few : (a : Spelling) → SpellingOf (asked k n z w old) a → natAbs k ≤ deepest → a .steps ≤ 2 * deepest - 1
       few a s l = go (t .k) refl
@@ -85,16 +87,10 @@ module _ (k : ℤ) (n : ℕ) (z w : ZOmega) (old : List ℕ) (r : Synthesis) (ne
     takes s h = steps-from (asked k n z w old) (s .letters) (h .normal .same) (s .steps) (h .counted) t a
 
     pub steps-few : r .steps ≤ 2 * t .k
-    steps-few =
-        always (untouched refused old) (Writes text counts (SpellingOf (asked k n z w old)) old) (λ (j : Lent Synthesis). j .handed .steps ≤ 2 * t .k)
-        (λ m p. omega arith) (refusals k n z w old)
-        (λ h j y. rw (y .is) (takes-few (y .v .steps) t (ready (y .v) (y .answer)) (takes (y .v) (y .answer)))) (lent r new) o
+    steps-few = each (λ s. s .steps ≤ 2 * t .k) (λ m p. omega arith) (λ h a s. takes-few (a .steps) t (ready a s) (takes a s))
 
     pub steps-under : 0 < t .k → r .steps < 2 * t .k
-    steps-under more =
-        always (untouched refused old) (Writes text counts (SpellingOf (asked k n z w old)) old) (λ (j : Lent Synthesis). j .handed .steps < 2 * t .k)
-        (λ m p. omega arith) (refusals k n z w old)
-        (λ h j y. rw (y .is) (takes-under (y .v .steps) t (ready (y .v) (y .answer)) (takes (y .v) (y .answer)) more)) (lent r new) o
+    steps-under more = each (λ s. s .steps < 2 * t .k) (λ m p. omega arith) (λ h a s. takes-under (a .steps) t (ready a s) (takes a s) more)
 
     pub steps-at-0 : t .k ≡ 0 → r .steps ≡ 0
     steps-at-0 e = omega (arith, steps-few)
@@ -113,7 +109,8 @@ module _ (k : ℤ) (n : ℕ) (z w : ZOmega) (old : List ℕ) (r : Synthesis) (ne
       steps-at-1010 f = counted ∙ takes-1010 (y .v .steps) t (ready (y .v) (y .answer)) (takes (y .v) (y .answer)) more f
 
 -- ---- two triples with one matrix
-module _ (k : ℤ) (n : ℕ) (z w : ZOmega) (old : List ℕ) (j : Lent Synthesis) (k′ : ℤ) (n′ : ℕ) (z′ w′ : ZOmega) (old′ : List ℕ) (j′ : Lent Synthesis) where
+module _ (k : ℤ) (n : ℕ) (z w : ZOmega) (old : List ℕ) (j : Lent Synthesis)
+    (k′ : ℤ) (n′ : ℕ) (z′ w′ : ZOmega) (old′ : List ℕ) (j′ : Lent Synthesis) where
   pub one-matrix : Same (asked k n z w old) (asked k′ n′ z′ w′ old′)
       → SynthesiseOutcome k n z w old (j .handed) (j .buffer) → SynthesiseOutcome k′ n′ z′ w′ old′ (j′ .handed) (j′ .buffer)
       → j .handed .refusal ≡ Accepted → j′ .handed .refusal ≡ Accepted

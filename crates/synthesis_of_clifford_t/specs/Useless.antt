@@ -89,7 +89,8 @@ unit-taken =
       unitary-there = λ n. record { squares-sum = refl; crosses-sum = refl };
     }
 
-pub refuses-all : (number : ℕ) → (number ≡ 0 → ⊥) → (new : List ℕ) → SynthesiseOutcome (pos 0) 0 one nil (0 ∷ []) (refused number 0) new → ⊥
+pub refuses-all : (number : ℕ) → (number ≡ 0 → ⊥) → (new : List ℕ)
+    → SynthesiseOutcome (pos 0) 0 one nil (0 ∷ []) (refused number 0) new → ⊥
 refuses-all number f new o =
     f (ap (λ (r : Synthesis). r .refusal) (only (pos 0) 0 one nil (I ∷ []) (0 ∷ []) unit-taken tt tt (omega arith) (refused number 0) new o))
 
@@ -126,12 +127,15 @@ one-step new o =
 abbrev oneT : Triple
 oneT = given (pos 0) 1 one nil
 
-pub letters-as-they-are : (new : List ℕ) → SynthesiseOutcome (pos 0) 1 one nil (0 ∷ 0 ∷ []) (counts (record { letters = letters oneT; steps = 0 })) new → ⊥
+abbrev asTheyAre : Synthesis
+asTheyAre = counts (record { letters = letters oneT; steps = 0 })
+
+pub letters-as-they-are : (new : List ℕ) → SynthesiseOutcome (pos 0) 1 one nil (0 ∷ 0 ∷ []) asTheyAre new → ⊥
 unfolding letters gathered closing back
 letters-as-they-are new o =
     let e : _≡_ {A = ℕ} 1 2 =
     ap (λ (r : Synthesis). r .bytes)
-    (only (pos 0) 1 one nil (T′ ∷ I ∷ []) (0 ∷ 0 ∷ []) unit-taken tt tt (omega arith) (counts (record { letters = letters oneT; steps = 0 })) new o) in
+    (only (pos 0) 1 one nil (T′ ∷ I ∷ []) (0 ∷ 0 ∷ []) unit-taken tt tt (omega arith) asTheyAre new o) in
     omega arith
 
 -- ---- the steps
@@ -165,12 +169,15 @@ h-taken =
       unitary-there = λ n. record { squares-sum = refl; crosses-sum = refl };
     }
 
-pub tees-for-steps : (new : List ℕ) → SynthesiseOutcome (pos 1) 4 one one (0 ∷ []) (counts (record { letters = H ∷ []; steps = tees (H ∷ []) })) new → ⊥
+abbrev byTees : Synthesis
+byTees = counts (record { letters = H ∷ []; steps = tees (H ∷ []) })
+
+pub tees-for-steps : (new : List ℕ) → SynthesiseOutcome (pos 1) 4 one one (0 ∷ []) byTees new → ⊥
 unfolding steps gathered next powerBy
 tees-for-steps new o =
     let e : _≡_ {A = ℕ} 0 1 =
     ap (λ (r : Synthesis). r .steps)
-    (only (pos 1) 4 one one (H ∷ []) (0 ∷ []) h-taken tt tt (omega arith) (counts (record { letters = H ∷ []; steps = tees (H ∷ []) })) new o) in
+    (only (pos 1) 4 one one (H ∷ []) (0 ∷ []) h-taken tt tt (omega arith) byTees new o) in
     omega arith
 
 -- any input
