@@ -1,6 +1,7 @@
 -- What a reader must believe, and nothing else: definitions written from docs/SCOPE.md and the published papers that it names.
 pub mod Number
 pub mod Matrix
+pub mod Rotation
 pub mod Word
 pub mod Triple
 pub mod Normal

@@ -3,3 +3,4 @@ pub mod Vectors
 pub mod Turns
 pub mod Triples
 pub mod Parity
+pub mod Laws

@@ -12,13 +12,13 @@ use Rattle.exact.specs.Meaning.Matrix.{Matrix, _·_, Same}
 use Rattle.exact.specs.Meaning.Word.{Letter, H, S, X, W, T′, letter, word, tees}
 use Rattle.exact.specs.Meaning.Normal.{times, Normal}
 use Rattle.exact.specs.Meaning.Triple.{Triple, entries}
+use Rattle.exact.specs.Meaning.Rotation.{Vect}
 use Rattle.exact.specs.Whole.Parity.{xr-comm, false-true}
 use Rattle.exact.specs.Algebra.Omega.{quad-path}
 use Rattle.exact.specs.Matrices.Same.{mul-assoc, Same-refl, Same-sym, Same-trans, Same-of, Same-mul}
 use Rattle.exact.specs.Matrices.Test.{same-by}
 use Rattle.exact.specs.Matrices.Words.{word-append, Same-append}
 use Rattle.exact.specs.Matrices.Triples.{act, acts}
-use Rattle.exact.specs.Rotation.Vectors.{Vect}
 use Rattle.exact.specs.Rotation.Parity.{Par, par, none, sOf, pturnL, pturn, Seen, fewest, same-count}
 use Rattle.exact.specs.Unique.Tails.{e₁, tees-append}
 use Rattle.exact.specs.Unique.Normal.{normal-seen, normal-fewest}

@@ -5,48 +5,16 @@ use mathlib.Core.List.{List, [], _∷_}
 use native.Mathlib.Omega.{arith}
 use lib.Dec.{T}
 use lib.IntN.{ℤ, pos, negℤ}
-use Rattle.exact.specs.Meaning.Number.{Ops, Quad, ints, addQ, mulQ, conjQ, root2, Ω}
+use Rattle.exact.specs.Meaning.Number.{Ops, ints, addQ, mulQ, conjQ, root2, Ω}
+use Rattle.exact.specs.Meaning.Rotation.{Root, constR, addR, negR, mulR, timesR, rootTwos, ofRoot}
 use Rattle.exact.specs.Whole.Linear.{int, negation}
 use Rattle.exact.specs.Whole.Parity.{halved}
 use Rattle.exact.specs.Algebra.Ring.{Laws, ints-laws}
 use Rattle.exact.specs.Algebra.Solver.{Expr, var, con, _⊕_, _⊗_, exprs, eval, at, same, solve}
 use Rattle.exact.specs.Algebra.Omega.{quad-path, solveQ}
 
-pub record Root (A : Type 0) : Type 0 where
-  pub p : A
-  pub q : A
-
 pub root-path : {A : Type 0} {x y : Root A} → x .p ≡ y .p → x .q ≡ y .q → x ≡ y
 root-path h k = λ i. record { p = h i; q = k i }
-
--- ---- the operations
-module _ (O : Ops) where
-  open Ops O using (Car, add as _+′_, mul as _*′_, neg, const)
-
-  infixl 6 _+′_
-  infixl 7 _*′_
-  abbrev pub constR : ℤ → Root Car
-  constR n = record { p = const n; q = const (pos 0) }
-
-  abbrev pub addR : Root Car → Root Car → Root Car
-  addR x y = record { p = x .p +′ y .p; q = x .q +′ y .q }
-
-  abbrev pub negR : Root Car → Root Car
-  negR x = record { p = neg (x .p); q = neg (x .q) }
-
-  abbrev pub mulR : Root Car → Root Car → Root Car
-  mulR x y = record { p = x .p *′ y .p +′ (x .q *′ y .q +′ x .q *′ y .q); q = x .p *′ y .q +′ x .q *′ y .p }
-
-  -- root two times
-  abbrev pub timesR : Root Car → Root Car
-  timesR x = record { p = x .q +′ x .q; q = x .p }
-
-  abbrev pub rootTwos : Ops
-  rootTwos = record { Car = Root Car; add = addR; mul = mulR; neg = negR; const = constR }
-
-  -- as a ring number
-  abbrev pub ofRoot : Root Car → Quad Car
-  ofRoot x = record { a = neg (x .q); b = const (pos 0); c = x .q; d = x .p }
 
 -- ---- the solver, at each of the two parts
 abbrev R₀ : Root Expr

@@ -1,16 +1,12 @@
 -- The conjugate transposed; matrices that it inverts, up to their root twos, can be struck from the left; and M·s·M*. Assumes nothing.
 use mathlib.Core.Path.{_≡_, refl, sym, _∙_, ap, ap₂}
 use Prim.Native.Nat.{ℕ, _+_}
-use Rattle.exact.specs.Meaning.Number.{Ops, Quad, Ω, ints, omegas, mulQ, conjQ, root2^}
-use Rattle.exact.specs.Meaning.Matrix.{Mat, unitM, mulM, scaleM, Matrix, unit, _·_, Same}
+use Rattle.exact.specs.Meaning.Number.{Ω, ints, omegas, mulQ, conjQ, root2^}
+use Rattle.exact.specs.Meaning.Matrix.{Mat, unitM, mulM, scaleM, starM, Matrix, unit, _·_, Same}
 use Rattle.exact.specs.Algebra.Ring.{ints-laws}
 use Rattle.exact.specs.Algebra.Omega.{omegas-laws, conj-add, conj-mul, root2^-add, root2^-conj}
 use Rattle.exact.specs.Matrices.Laws.{mat-path, mulM-assoc, unit-mulM, scale-mulM, mulM-scale, scale-scale, scale-both, scale-past, scale-twice}
 use Rattle.exact.specs.Matrices.Same.{lifted, lifted-cancel}
-
-module _ (O : Ops) where
-  abbrev pub starM : Mat (Quad (O .Car)) → Mat (Quad (O .Car))
-  starM x = record { p = conjQ O (x .p); q = conjQ O (x .r); r = conjQ O (x .q); s = conjQ O (x .s) }
 
 star-entry : (a b c d : Ω)
     → conjQ ints (omegas .add (mulQ ints a b) (mulQ ints c d))

@@ -6,7 +6,7 @@ use Prim.Native.Nat.{ℕ, suc, _+_}
 use native.Mathlib.Omega.{arith}
 use lib.IntN.{ℤ, pos}
 use Rattle.exact.specs.Meaning.Number.{Quad, Ω, ints, omegas, quads, power, addQ, negQ, mulQ, constQ, conjQ, omega′, omega^, root2^}
-use Rattle.exact.specs.Meaning.Matrix.{Mat, mulM, _·_, Same}
+use Rattle.exact.specs.Meaning.Matrix.{Mat, mulM, starM, _·_, Same}
 use Rattle.exact.specs.Meaning.Word.{Letter, I, H, S, X, W, T′, letterM, letter, word}
 use Rattle.exact.specs.Meaning.Triple.{Triple, rows, entries, Unitary}
 use Rattle.exact.specs.Algebra.Ring.{ints-laws}
@@ -16,7 +16,7 @@ use Rattle.exact.specs.Algebra.OmegaPower.{omega^-add, omega^-conj}
 use Rattle.exact.specs.Algebra.Norm.{norm, unitary-equation, equation-unitary, two^}
 use Rattle.exact.specs.Matrices.Laws.{mat-path, passed, solveMQ}
 use Rattle.exact.specs.Matrices.Same.{matrix-path}
-use Rattle.exact.specs.Matrices.Star.{starM, Isometry, mul-isometry, Same-isometry}
+use Rattle.exact.specs.Matrices.Star.{Isometry, mul-isometry, Same-isometry}
 use Rattle.exact.specs.Matrices.Words.{letter-isometry}
 
 -- ---- letters

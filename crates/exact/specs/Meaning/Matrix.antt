@@ -3,7 +3,7 @@
 use mathlib.Core.Path.{_≡_}
 use Prim.Native.Nat.{ℕ, _+_, _≤_}
 use lib.IntN.{pos}
-use Rattle.exact.specs.Meaning.Number.{Ops, omegas, Ω, omega^, root2^}
+use Rattle.exact.specs.Meaning.Number.{Ops, Quad, ints, omegas, conjQ, Ω, omega^, root2^}
 
 -- [p q; r s]
 pub record Mat (A : Type 0) : Type 0 where
@@ -20,6 +20,9 @@ module _ (O : Ops) where
   abbrev pub unitM : Mat Car
   unitM = record { p = const (pos 1); q = const (pos 0); r = const (pos 0); s = const (pos 1) }
 
+  abbrev pub addM : Mat Car → Mat Car → Mat Car
+  addM x y = record { p = x .p +′ y .p; q = x .q +′ y .q; r = x .r +′ y .r; s = x .s +′ y .s }
+
   abbrev pub mulM : Mat Car → Mat Car → Mat Car
   mulM x y = record {
     p = x .p *′ y .p +′ x .q *′ y .r;
@@ -30,6 +33,11 @@ module _ (O : Ops) where
 
   abbrev pub scaleM : Car → Mat Car → Mat Car
   scaleM c x = record { p = c *′ x .p; q = c *′ x .q; r = c *′ x .r; s = c *′ x .s }
+
+-- the conjugate transposed
+module _ (O : Ops) where
+  abbrev pub starM : Mat (Quad (O .Car)) → Mat (Quad (O .Car))
+  starM x = record { p = conjQ O (x .p); q = conjQ O (x .r); r = conjQ O (x .q); s = conjQ O (x .s) }
 
 -- ---- m over root two to the e
 pub record Matrix : Type 0 where
@@ -42,6 +50,9 @@ unit = record { m = unitM omegas; e = 0 }
 infixl 7 _·_
 abbrev pub _·_ : Matrix → Matrix → Matrix
 x · y = record { m = mulM omegas (x .m) (y .m); e = x .e + y .e }
+
+abbrev pub star : Matrix → Matrix
+star x = record { m = starM ints (x .m); e = x .e }
 
 -- the same matrix: they agree after each is multiplied by root two to the other's exponent
 pub record Same (x y : Matrix) : Type 0 where

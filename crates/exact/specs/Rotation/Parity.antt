@@ -9,9 +9,10 @@ use lib.IntN.{ℤ}
 use Rattle.exact.specs.Meaning.Number.{ints, odd}
 use Rattle.exact.specs.Meaning.Matrix.{Same}
 use Rattle.exact.specs.Meaning.Word.{Letter, I, H, S, X, W, T′, word, tees}
+use Rattle.exact.specs.Meaning.Rotation.{Vect, timesV, lift}
 use Rattle.exact.specs.Whole.Parity.{xr, odd-sub, odd-add, odd-neg, odd-double}
 use Rattle.exact.specs.Matrices.Same.{Same-sym}
-use Rattle.exact.specs.Rotation.Vectors.{Vect, turnL, turn, timesV, lift, lift-add, lift-cancel}
+use Rattle.exact.specs.Rotation.Vectors.{turnL, turn, lift-add, lift-cancel}
 use Rattle.exact.specs.Rotation.Turns.{same-turn}
 
 pub record Par : Type 0 where

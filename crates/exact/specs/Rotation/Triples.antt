@@ -10,16 +10,17 @@ use Rattle.exact.specs.Meaning.Number.{Ω, ints, omegas, addQ, negQ, mul
 use Rattle.exact.specs.Meaning.Matrix.{Mat, mulM, scaleM, Same}
 use Rattle.exact.specs.Meaning.Word.{Letter, word, tees}
 use Rattle.exact.specs.Meaning.Triple.{Triple, entries}
+use Rattle.exact.specs.Meaning.Rotation.{Root, Vect, timesR, ofRoot, timesV, lift}
 use Rattle.exact.specs.Algebra.Ring.{ints-laws}
 use Rattle.exact.specs.Algebra.Solver.{Expr, var, con, _⊕_, _⊗_, _⊝_, ⊖, exprs, eval, at, same, solve, solve-from, ring₂}
 use Rattle.exact.specs.Algebra.Omega.{omegas-laws, conj-mul, conj-conj, conj-eval, root2^-add, X₀, parts, solveQ}
 use Rattle.exact.specs.Algebra.OmegaPower.{omega^-conj}
-use Rattle.exact.specs.Algebra.RootTwo.{Root, timesR, ofRoot, toRoot, ofRoot-real, ofRoot-times, ofRoot-conj}
+use Rattle.exact.specs.Algebra.RootTwo.{toRoot, ofRoot-real, ofRoot-times, ofRoot-conj}
 use Rattle.exact.specs.Matrices.Laws.{mat-path, scale-scale}
 use Rattle.exact.specs.Matrices.Same.{lifted, Same-of}
 use Rattle.exact.specs.Matrices.Star.{sand}
 use Rattle.exact.specs.Matrices.Triples.{mulT, mulT-is, star-entries}
-use Rattle.exact.specs.Rotation.Vectors.{Vect, turn, sigma, coords, V₀, lift, lift-add, lift-cancel, timesV}
+use Rattle.exact.specs.Rotation.Vectors.{turn, sigma, coords, V₀, lift-add, lift-cancel}
 use Rattle.exact.specs.Rotation.Turns.{Turns, turns-mul, turns-same, turns-word}
 
 -- x + i·y of a vector, and z, as ring numbers

@@ -5,15 +5,16 @@ use mathlib.Core.List.{List, [], _∷_}
 use Prim.Native.Nat.{ℕ, _+_}
 use lib.IntN.{ℤ, negsuc}
 use Rattle.exact.specs.Meaning.Number.{Ops, Quad, Ω, ints, omegas, quads, power, mulQ, root2, root2^}
-use Rattle.exact.specs.Meaning.Matrix.{Mat, mulM, scaleM, Matrix, unit, _·_, Same}
+use Rattle.exact.specs.Meaning.Matrix.{Mat, mulM, scaleM, starM, Matrix, unit, _·_, Same}
 use Rattle.exact.specs.Meaning.Word.{Letter, I, H, S, X, W, T′, letterM, roots, letter, word, tee, tees}
+use Rattle.exact.specs.Meaning.Rotation.{Vect, lift}
 use Rattle.exact.specs.Algebra.Ring.{ints-laws}
 use Rattle.exact.specs.Algebra.Solver.{Expr, var, con, _⊗_, exprs, solve-from}
 use Rattle.exact.specs.Algebra.Omega.{omegas-laws, root2^-add, root2^-cancel}
 use Rattle.exact.specs.Matrices.Laws.{mat-path, unit-mulM, mulM-unit, passed, solveMQ, scale-one, scale-scale, scale-past, scale-twice}
 use Rattle.exact.specs.Matrices.Same.{lifted}
-use Rattle.exact.specs.Matrices.Star.{starM, sand, sand-mul, sand-scale, lifted-sand}
-use Rattle.exact.specs.Rotation.Vectors.{Vect, turnL, turn, sigma, lift, lifted-sigma, sigma-inj, V₀, coords}
+use Rattle.exact.specs.Matrices.Star.{sand, sand-mul, sand-scale, lifted-sand}
+use Rattle.exact.specs.Rotation.Vectors.{turnL, turn, sigma, lifted-sigma, sigma-inj, V₀, coords}
 
 pub record Turns (x : Matrix) (v y : Vect ℤ) (f : ℕ) : Type 0 where
   pub turned : lifted f (sand (x .m) (sigma ints v)) ≡ lifted (x .e) (lifted (x .e) (sigma ints y))

@@ -9,18 +9,14 @@ use lib.IntN.{ℤ, pos, _+ℤ_, _-ℤ_}
 use Rattle.exact.specs.Meaning.Number.{Ops, Quad, ints, omegas, quads, root2, root2^}
 use Rattle.exact.specs.Meaning.Matrix.{Mat, scaleM}
 use Rattle.exact.specs.Meaning.Word.{Letter, I, H, S, X, W, T′}
+use Rattle.exact.specs.Meaning.Rotation.{Vect, addR, negR, timesR, timesV, lift}
 use Rattle.exact.specs.Whole.Linear.{int, sum, difference}
 use Rattle.exact.specs.Algebra.Ring.{ints-laws}
 use Rattle.exact.specs.Algebra.Solver.{Expr, var, exprs}
 use Rattle.exact.specs.Algebra.Omega.{omegas-laws}
-use Rattle.exact.specs.Algebra.RootTwo.{Root, root-path, addR, negR, timesR, timesR-cancel}
+use Rattle.exact.specs.Algebra.RootTwo.{root-path, timesR-cancel}
 use Rattle.exact.specs.Matrices.Laws.{passed, solveMQ, scale-scale, scale-one}
 use Rattle.exact.specs.Matrices.Same.{lifted}
-
-pub record Vect (A : Type 0) : Type 0 where
-  pub x : Root A
-  pub y : Root A
-  pub z : Root A
 
 pub vect-path : {A : Type 0} {v w : Vect A} → v .x ≡ w .x → v .y ≡ w .y → v .z ≡ w .z → v ≡ w
 vect-path h k m = λ i. record { x = h i; y = k i; z = m i }
@@ -29,10 +25,6 @@ module _ (O : Ops) where
   open Ops O using (Car, add as _+′_, neg, const)
 
   infixl 6 _+′_
-  -- root two times
-  abbrev pub timesV : Vect Car → Vect Car
-  timesV v = record { x = timesR O (v .x); y = timesR O (v .y); z = timesR O (v .z) }
-
   abbrev pub turnL : Letter → Vect Car → Vect Car
   turnL I v = v
   turnL H v = record { x = v .z; y = negR O (v .y); z = v .x }
@@ -56,10 +48,6 @@ turn [] v = v
 turn (l ∷ u) v = turnL ints l (turn u v)
 
 -- ---- powers of root two
-abbrev pub lift : ℕ → Vect ℤ → Vect ℤ
-lift zero v = v
-lift (suc n) v = timesV ints (lift n v)
-
 pub lift-add : (m n : ℕ) (v : Vect ℤ) → lift (m + n) v ≡ lift m (lift n v)
 lift-add zero n v = ap (λ k. lift k v) (zero-add n)
 lift-add (suc m) n v = ap (λ k. lift k v) (suc-add m n) ∙ ap (timesV ints) (lift-add m n v)

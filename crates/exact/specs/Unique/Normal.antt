@@ -10,10 +10,10 @@ use Rattle.exact.specs.Meaning.Matrix.{_·_, unit, Same}
 use Rattle.exact.specs.Meaning.Word.{Letter, H, S, X, W, T′, letter, word, tees}
 use Rattle.exact.specs.Meaning.Normal.{Syllable, HT, SHT, Front, nothing, onlyH, onlySH, Tail, Shape, times, frontWord, tailWord, orI}
 use Rattle.exact.specs.Meaning.Normal.{after, leading, spell, Fits, Normal}
+use Rattle.exact.specs.Meaning.Rotation.{Vect}
 use Rattle.exact.specs.Whole.Parity.{xr-comm, xr-false, false-true}
 use Rattle.exact.specs.Matrices.Same.{unit-mul, Same-sym}
 use Rattle.exact.specs.Matrices.Words.{strike-word}
-use Rattle.exact.specs.Rotation.Vectors.{Vect}
 use Rattle.exact.specs.Rotation.Parity.{Par, par, sOf, pturnL, pturn, Seen, fewest, same-count, same-parities}
 use Rattle.exact.specs.Unique.Tails.{e₁, e₃, ending, tail-tees, tail-unique}
 

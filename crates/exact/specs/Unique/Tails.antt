@@ -13,13 +13,14 @@ use Rattle.exact.specs.Meaning.Matrix.{mulM, Matrix, _·_, Same}
 use Rattle.exact.specs.Meaning.Word.{Letter, S, X, W, letter, word, tee, tees}
 use Rattle.exact.specs.Meaning.Normal.{Front, nothing, onlyH, onlySH, Tail, times, frontWord, tailWord, orI, Fits}
 use Rattle.exact.specs.Meaning.Clifford.{Clifford, Within, cycle, clifford}
+use Rattle.exact.specs.Meaning.Rotation.{Vect, lift}
 use Rattle.exact.specs.Algebra.Solver.{var, con, _⊗_, exprs}
 use Rattle.exact.specs.Algebra.Omega.{omegas-laws}
 use Rattle.exact.specs.Algebra.OmegaPower.{omega^-same}
 use Rattle.exact.specs.Matrices.Laws.{solveM}
 use Rattle.exact.specs.Matrices.Same.{matrix-path, Same-level}
 use Rattle.exact.specs.Matrices.Words.{strike-word}
-use Rattle.exact.specs.Rotation.Vectors.{Vect, turnL, turn, lift}
+use Rattle.exact.specs.Rotation.Vectors.{turnL, turn}
 use Rattle.exact.specs.Rotation.Turns.{same-turn}
 use Rattle.exact.specs.Rotation.Parity.{turn-append}
 
