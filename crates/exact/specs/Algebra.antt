@@ -4,6 +4,7 @@ pub mod Solver
 pub mod Power
 pub mod Omega
 pub mod RootTwo
+pub mod RootPower
 pub mod OmegaPower
 pub mod Norm
 pub mod Over

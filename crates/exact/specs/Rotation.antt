@@ -4,3 +4,8 @@ pub mod Turns
 pub mod Triples
 pub mod Parity
 pub mod Laws
+pub mod Orthogonal
+pub mod Sizes
+pub mod Least
+pub mod Worked
+pub mod Few

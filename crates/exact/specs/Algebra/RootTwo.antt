@@ -29,10 +29,10 @@ R₂ = record { p = var 4; q = var 5 }
 abbrev two : {A : Type 0} → Root A → List A → List A
 two x xs = x .p ∷ x .q ∷ xs
 
-abbrev evalR : (O : Ops) → List (O .Car) → Root Expr → Root (O .Car)
+abbrev pub evalR : (O : Ops) → List (O .Car) → Root Expr → Root (O .Car)
 evalR O xs e = record { p = eval O (at O xs) (e .p); q = eval O (at O xs) (e .q) }
 
-solveR : (O : Ops) → Laws O → (xs : List (O .Car)) (e f : Root Expr) → T (same (e .p) (f .p)) × T (same (e .q) (f .q)) → evalR O xs e ≡ evalR O xs f
+pub solveR : (O : Ops) → Laws O → (xs : List (O .Car)) (e f : Root Expr) → T (same (e .p) (f .p)) × T (same (e .q) (f .q)) → evalR O xs e ≡ evalR O xs f
 solveR O L xs e f t = root-path (solve O L xs (e .p) (f .p) (t .0)) (solve O L xs (e .q) (f .q) (t .1))
 
 -- ---- the laws

@@ -23,6 +23,9 @@ M₁ = record { p = var 4; q = var 5; r = var 6; s = var 7 }
 abbrev pub M₂ : Mat Expr
 M₂ = record { p = var 8; q = var 9; r = var 10; s = var 11 }
 
+abbrev pub M₃ : Mat Expr
+M₃ = record { p = var 12; q = var 13; r = var 14; s = var 15 }
+
 abbrev pub entriesOf : {A : Type 0} → Mat A → List A → List A
 entriesOf x xs = x .p ∷ x .q ∷ x .r ∷ x .s ∷ xs
 

@@ -40,13 +40,13 @@ sum-is : {t : Triple} → Unitary t → squaresN (t .z) + squaresN (t .w) ≡ 2 
 sum-is {t} u = pos-inj (sym (ap₂ _+ℤ_ (squares-are (t .z)) (squares-are (t .w))) ∙ u .squares-sum)
 
 -- ---- a square at most 4^j
-root-le : (m n : ℕ) → m * m ≤ n * n → m ≤ n
+pub root-le : (m n : ℕ) → m * m ≤ n * n → m ≤ n
 root-le m n h = omega (arith, no-more)
   where
     no-more : n < m → ⊥
     no-more l = omega (arith, mul-le-mul l l)
 
-four^ : (j : ℕ) → 2 ^ (j + j) ≡ 2 ^ j * 2 ^ j
+pub four^ : (j : ℕ) → 2 ^ (j + j) ≡ 2 ^ j * 2 ^ j
 four^ j = pow-add 2 j j
 
 module _ {t : Triple} (u : Unitary t) (j : ℕ) (h : t .k ≤ j + j) where

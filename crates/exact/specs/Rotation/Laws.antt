@@ -14,7 +14,7 @@ use Rattle.exact.specs.Algebra.Ring.{ints-laws}
 use Rattle.exact.specs.Algebra.Solver.{Expr, var, exprs}
 use Rattle.exact.specs.Algebra.Omega.{omegas-laws, conj-mul, root2^-add}
 use Rattle.exact.specs.Algebra.OmegaPower.{omega^-conj}
-use Rattle.exact.specs.Matrices.Laws.{mat-path, M₀, M₁, M₂, entriesOf, solveM, passed, solveMQ, scale-mulM, scale-scale, scale-swap, scale-past, scale-both, scale-one}
+use Rattle.exact.specs.Matrices.Laws.{mat-path, M₀, M₁, M₂, M₃, entriesOf, solveM, passed, solveMQ, scale-mulM, scale-scale, scale-swap, scale-past, scale-both, scale-one}
 use Rattle.exact.specs.Matrices.Same.{lifted, lifted-cancel, Same-of}
 use Rattle.exact.specs.Matrices.Star.{sand, lifted-sand}
 use Rattle.exact.specs.Matrices.Words.{word-append}
@@ -70,9 +70,6 @@ module _ (O : Ops) where
   abbrev mix : O .Car → O .Car → O .Car → Mat (O .Car) → Mat (O .Car) → Mat (O .Car) → Mat (O .Car)
   mix a b c A B C = addM O (addM O (scaleM O a A) (scaleM O b B)) (scaleM O c C)
 
-abbrev M₃ : Mat Expr
-M₃ = record { p = var 12; q = var 13; r = var 14; s = var 15 }
-
 abbrev M₄ : Mat Expr
 M₄ = record { p = var 16; q = var 17; r = var 18; s = var 19 }
 
@@ -97,7 +94,7 @@ module _ (a b c : Ω) (A B C : Mat Ω) where
 abbrev combined : (O : Ops) → Vect (O .Car) → Three (Vect (O .Car)) → Mat (Quad (O .Car))
 combined O v m = mix (quads O) (ofRoot O (v .x)) (ofRoot O (v .y)) (ofRoot O (v .z)) (sigma O (m .x)) (sigma O (m .y)) (sigma O (m .z))
 
-abbrev vectAt : ℕ → Vect Expr
+abbrev pub vectAt : ℕ → Vect Expr
 vectAt i = record {
   x = record { p = var i; q = var (i + 1) };
   y = record { p = var (i + 2); q = var (i + 3) };

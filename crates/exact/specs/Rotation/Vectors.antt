@@ -1,6 +1,6 @@
 -- Vectors (x,y,z) over ℤ[root two], their matrices sigma v = [z, x-iy; x+iy, -z], and how a letter turns them: T scaled by root two, the others
 -- exactly. Over any ring's operations. Assumes nothing.
-use mathlib.Core.Path.{_≡_, _∙_, ap}
+use mathlib.Core.Path.{_≡_, refl, _∙_, ap}
 use mathlib.Core.List.{List, [], _∷_}
 use Prim.Native.Nat.{ℕ, zero, suc, _+_}
 use native.Mathlib.Omega.{arith}
@@ -15,6 +15,7 @@ use Rattle.exact.specs.Algebra.Ring.{ints-laws}
 use Rattle.exact.specs.Algebra.Solver.{Expr, var, exprs}
 use Rattle.exact.specs.Algebra.Omega.{omegas-laws}
 use Rattle.exact.specs.Algebra.RootTwo.{root-path, timesR-cancel}
+use Rattle.exact.specs.Algebra.RootPower.{liftR}
 use Rattle.exact.specs.Matrices.Laws.{passed, solveMQ, scale-scale, scale-one}
 use Rattle.exact.specs.Matrices.Same.{lifted}
 
@@ -48,6 +49,10 @@ turn [] v = v
 turn (l ∷ u) v = turnL ints l (turn u v)
 
 -- ---- powers of root two
+pub lift-parts : (n : ℕ) (v : Vect ℤ) → lift n v ≡ record { x = liftR n (v .x); y = liftR n (v .y); z = liftR n (v .z) }
+lift-parts zero v = refl
+lift-parts (suc n) v = ap (λ w. record { x = timesR ints (w .x); y = timesR ints (w .y); z = timesR ints (w .z) }) (lift-parts n v)
+
 pub lift-add : (m n : ℕ) (v : Vect ℤ) → lift (m + n) v ≡ lift m (lift n v)
 lift-add zero n v = ap (λ k. lift k v) (zero-add n)
 lift-add (suc m) n v = ap (λ k. lift k v) (suc-add m n) ∙ ap (timesV ints) (lift-add m n v)
