@@ -7,7 +7,7 @@ use lib.IntN.{ℤ, pos, natAbs, _-ℤ_}
 use mir.Syntax.{w64}
 use mir.Val.{SFits}
 use mir.Facts.{toZ-ofZ}
-use Rattle.exact.specs.Meaning.Number.{Quad, Ω, ints, quads, power, negQ, mulQ, omega′, omega^, Sized}
+use Rattle.exact.specs.Meaning.Number.{Quad, Ω, ints, quads, power, negQ, mulQ, conjQ, omega′, omega^, Sized}
 use Rattle.exact.specs.Algebra.Ring.{ints-laws}
 use Rattle.exact.specs.Algebra.Solver.{Expr, con, _⊝_, exprs}
 use Rattle.exact.specs.Algebra.Omega.{X₀, parts, solveQ}
@@ -35,6 +35,12 @@ negated x = solveQ ints ints-laws (parts x []) (negQ exprs X₀) less (tt, tt, t
   where
     less : Quad Expr
     less = record { a = con (pos 0) ⊝ X₀ .a; b = con (pos 0) ⊝ X₀ .b; c = con (pos 0) ⊝ X₀ .c; d = con (pos 0) ⊝ X₀ .d }
+
+-- the conjugate, as the machine does it
+pub conjugated : (x : Ω) → conjQ ints x ≡ record { a = pos 0 -ℤ x .c; b = pos 0 -ℤ x .b; c = pos 0 -ℤ x .a; d = x .d }
+conjugated x =
+    solveQ ints ints-laws (parts x []) (conjQ exprs X₀)
+    (record { a = con (pos 0) ⊝ X₀ .c; b = con (pos 0) ⊝ X₀ .b; c = con (pos 0) ⊝ X₀ .a; d = X₀ .d }) (tt, tt, tt, tt)
 
 pub opposite-fits : (z : ℤ) → natAbs z ≤ 2 ^ 31 → SFits w64 (pos 0 -ℤ held w64 z)
 opposite-fits z l = rw (toZ-ofZ (fits z l)) (sfits-abs (omega (arith, natAbs-sub (pos 0) z)))

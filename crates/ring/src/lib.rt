@@ -4,7 +4,7 @@ ghost use Prim.Native.Nat.{_+_, _^_, _-_, _≤_, _<_};
 ghost use lib.Dec.{T};
 ghost use lib.IntN.{natAbs};
 ghost use Rattle.exact.specs.Meaning.Number.{Sized};
-ghost use Rattle.exact.specs.Meaning.Number.{ints, addQ, negQ, mulQ, omega′, omega^, root2, root2^, bit, residue};
+ghost use Rattle.exact.specs.Meaning.Number.{ints, addQ, negQ, mulQ, conjQ, omega′, omega^, root2, root2^, bit, residue};
 ghost use Rattle.exact.specs.Meaning.Number as Meaning;
 ghost use Rattle.exact.specs.Meaning.Triple.{squares, crosses};
 ghost use Rattle.exact.specs.Whole.Twos.{Zeros};
@@ -106,6 +106,43 @@ impl ZOmega {
             b: c,
             c: d,
             d: -a,
+        }
+    }
+
+    pub fn conj(self) -> ZOmega
+        requires { ⌜ Small self ⌝ }
+        ensures { λ r. ⌜ quad r ≡ conjQ ints (quad self) ⌝ }
+    {
+        let a = self.a;
+        let b = self.b;
+        let c = self.c;
+        let d = self.d;
+        ZOmega {
+            a: -c,
+            b: -b,
+            c: -a,
+            d: d,
+        }
+    }
+
+    // Multiplied out: coefficients of at most 2^30 give such of at most 2^62.
+    pub fn mul(self, o: ZOmega) -> ZOmega
+        requires { ⌜ Sized (2 ^ 30) (quad self) ⌝ ∗ ⌜ Sized (2 ^ 30) (quad o) ⌝ }
+        ensures { λ r. ⌜ quad r ≡ mulQ ints (quad self) (quad o) ⌝ }
+    {
+        let a = self.a;
+        let b = self.b;
+        let c = self.c;
+        let d = self.d;
+        let e = o.a;
+        let f = o.b;
+        let g = o.c;
+        let h = o.d;
+        ZOmega {
+            a: a * h + b * g + c * f + d * e,
+            b: b * h + c * g + d * f - a * e,
+            c: c * h + d * g - (a * f + b * e),
+            d: d * h - (a * g + b * f + c * e),
         }
     }
 

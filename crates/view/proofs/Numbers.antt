@@ -4,7 +4,7 @@ use Prim.Native.Nat.{ℕ, _+_, _%_, _^_}
 use native.Mathlib.Numerals.{add-one}
 use native.Mathlib.Omega.{arith}
 use lib.Dec.{T}
-use lib.IntN.{ℤ, pos, negℤ, natAbs, _-ℤ_, +ℤ-idl}
+use lib.IntN.{ℤ, pos, natAbs}
 use lib.Signed.{nonNeg, yes-nonNeg}
 use mir.Syntax.{w32}
 use mir.Val.{Fits}
@@ -14,10 +14,6 @@ use Rattle.exact.specs.Algebra.Omega.{omegas-laws}
 use Rattle.exact.specs.Algebra.OmegaPower.{omega^-mod}
 use Rattle.exact.specs.Meaning.Refusals.{InExponents}
 use Rattle.unitary.specs.Checks.{exponent-size}
-
--- a negative, as the machine has it
-pub minus : (x : ℤ) → pos 0 -ℤ x ≡ negℤ x
-minus x = +ℤ-idl (negℤ x)
 
 -- ---- omega
 pub no-turn : (x : Ω) → x ≡ mulQ ints x (omega^ 0)

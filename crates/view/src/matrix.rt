@@ -4,7 +4,6 @@ ghost use Prim.Native.Nat.{_≤_};
 ghost use Rattle.exact.specs.Meaning.Triple.{Unitary};
 ghost use Rattle.ring.specs.Meaning.{quad};
 ghost use Rattle.view.specs.Meaning.Outcome.{Viewed, nothing};
-use crate::number::conj;
 use crate::number::mul_by_omega_power;
 use crate::number::parts;
 use ring::ZOmega;
@@ -40,9 +39,9 @@ pub(crate) fn entries(k: u32, n: u8, z: ZOmega, w: ZOmega) -> View
     requires { ⌜ (k ≤ 60) × Unitary (record { k = k; n = n; z = quad z; w = quad w }) ⌝ }
     ensures { λ r. ⌜ Viewed (record { k = k; n = n; z = quad z; w = quad w }) r ⌝ }
 {
-    let zc = conj(z);
+    let zc = z.conj();
     let zu = mul_by_omega_power(zc, n);
-    let wc = conj(w);
+    let wc = w.conj();
     let wu = mul_by_omega_power(wc, n);
     let wm = wu.neg();
     let p = parts(z, k);

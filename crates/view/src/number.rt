@@ -1,7 +1,7 @@
-// Ring numbers: the conjugate, times a power of omega, and the two parts of a number over a power of root two.
+// Ring numbers: times a power of omega, and the two parts of a number over a power of root two.
 ghost use mathlib.Core.Path.{_≡_};
 ghost use Prim.Native.Nat.{_≤_, _^_};
-ghost use Rattle.exact.specs.Meaning.Number.{ints, mulQ, conjQ, omega^};
+ghost use Rattle.exact.specs.Meaning.Number.{ints, mulQ, omega^};
 ghost use Rattle.ring.specs.Meaning.{quad};
 ghost use Rattle.view.specs.Meaning.Outcome.{Entry};
 ghost use Rattle.view.specs.Size.{size};
@@ -11,22 +11,6 @@ use ring::ZOmega;
 pub(crate) struct Complex {
     pub re: f64,
     pub im: f64,
-}
-
-pub(crate) fn conj(x: ZOmega) -> ZOmega
-    requires { ⌜ size (quad x) ≤ 2 ^ 60 ⌝ }
-    ensures { λ r. ⌜ quad r ≡ conjQ ints (quad x) ⌝ }
-{
-    let a = x.a;
-    let b = x.b;
-    let c = x.c;
-    let d = x.d;
-    ZOmega {
-        a: -c,
-        b: -b,
-        c: -a,
-        d: d,
-    }
 }
 
 pub(crate) fn mul_by_omega_power(x: ZOmega, n: u8) -> ZOmega

@@ -1,4 +1,4 @@
--- How much the numbers of a unitary triple's rotation can be: over root two to the 2k its columns are at most 2^k in p and q; and its least exponent is at
+-- How much the numbers of a unitary triple's rotation can be: p and q of its columns over root two to the 2k are at most 2^k; and its least exponent is at
 -- most 2k where k is over 0, else at most 1. Assumes nothing.
 use mathlib.Core.Path.{_≡_, refl, sym, _∙_, ap, ap₂, subst}
 use mathlib.Core.Bool.{false}
@@ -7,6 +7,7 @@ use Prim.Native.Nat.{ℕ, zero, suc, _+_, _-_, _/_, _%_, _^_, _≤_, _<_}
 use native.Mathlib.Nat.{mod-one}
 use native.Mathlib.Omega.{arith}
 use lib.Dec.{T, eqb}
+use lib.Pow.{pow-mono}
 use lib.IntN.{ℤ, pos, negℤ, natAbs, _+ℤ_}
 use Rattle.exact.specs.Meaning.Number.{Quad, Ω, ints, mulQ, odd, bit}
 use Rattle.exact.specs.Meaning.Triple.{Triple, squares, entries, Unitary}
@@ -21,13 +22,13 @@ use Rattle.exact.specs.Matrices.Triples.{unitary-isometry}
 use Rattle.exact.specs.Rotation.Vectors.{vect-path}
 use Rattle.exact.specs.Rotation.Laws.{rotation-same, rotation-written}
 use Rattle.exact.specs.Rotation.Orthogonal.{orthogonal}
-use Rattle.exact.specs.Rotation.Sizes.{Shorts, shorts}
+use Rattle.exact.specs.Rotation.Sizes.{UpC, shorts, ups-to, up-all}
 use Rattle.exact.specs.Rotation.Least.{lifts, lowered-same}
 use Rattle.exact.specs.Rotation.Worked.{with-n, columns, columns-rotation, quarter, eighth, quarter-more, eighth-more}
 
 -- ---- sizes
-pub columns-short : (k : ℕ) (z w : Ω) → Unitary (with-n k 0 z w) → Shorts (2 ^ (k + k)) (columns ints z w)
-columns-short k z w u = shorts (orthogonal (unitary-isometry u) (columns-rotation k z w))
+pub columns-up : (j k : ℕ) (z w : Ω) → k ≤ j → Unitary (with-n k 0 z w) → UpC (2 ^ j) (columns ints z w)
+columns-up j k z w l u = up-all (pow-mono l) (ups-to k (columns ints z w) (shorts (orthogonal (unitary-isometry u) (columns-rotation k z w))))
 
 -- ---- parities: what X and Y become agree in every part, if k is over 0
 record Agree (m : Three (Vect ℤ)) : Type 0 where

@@ -11,7 +11,7 @@ use Rattle.view.proofs.matrix.entries.Statement.{statement}
 use Rattle.view.proofs.matrix.entries.Tie as tie
 
 conj-requires : tie.Need-conj-requires
-conj-requires c κs = at-most-60 (c .pre .0) (z-size (c .pre .1))
+conj-requires c κs = record { sized = sized-le (lit≤ tt) (coefficients (quad (c .args .z)) (at-most-60 (c .pre .0) (z-size (c .pre .1)))) }
 
 mul-by-omega-power-requires : tie.Need-mul-by-omega-power-requires
 mul-by-omega-power-requires c κs =
@@ -21,7 +21,7 @@ mul-by-omega-power-requires c κs =
 conj-requires-2 : tie.Need-conj-requires-2
 conj-requires-2 c κs =
     let d = c .before .before in
-    at-most-60 (d .pre .0) (w-size (d .pre .1))
+    record { sized = sized-le (lit≤ tt) (coefficients (quad (d .args .w)) (at-most-60 (d .pre .0) (w-size (d .pre .1)))) }
 
 mul-by-omega-power-requires-2 : tie.Need-mul-by-omega-power-requires-2
 mul-by-omega-power-requires-2 c κs =
