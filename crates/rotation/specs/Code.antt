@@ -12,12 +12,14 @@ use mir.Val.{SFits}
 use mir.Facts.{toZ-ofZ}
 use Rattle.exact.specs.Meaning.Number.{ints}
 use Rattle.exact.specs.Meaning.Rotation as Exact
-use Rattle.exact.specs.Meaning.Rotation.{addR, negR, timesR}
+use Rattle.exact.specs.Meaning.Rotation.{addR, negR, timesR, lift}
 use Rattle.exact.specs.Whole.Machine.{held}
 use Rattle.exact.specs.Whole.Size.{natAbs-neg, natAbs-add, sfits-abs}
 use Rattle.exact.specs.Algebra.RootTwo.{root-path}
 use Rattle.exact.specs.Algebra.RootPower.{DividesR, liftR, evenly, oddly, evenly-lift, oddly-lift}
-use Rattle.exact.specs.Rotation.Sizes.{Up}
+use Rattle.exact.specs.Rotation.Vectors.{vect-path, lift-parts}
+use Rattle.exact.specs.Rotation.Sizes.{Up, up-le, up-add}
+use Rattle.exact.specs.Rotation.Worked.{subR}
 use Rattle.rotation.specs.Meaning.{root}
 use Rattle.rotation.specs.declared.root.Root.{Root}
 
@@ -26,6 +28,10 @@ pub record Addable (x y : Exact.Root ℤ) : Type 0 where
   pub left : Up (2 ^ 62) x
   pub right : Up (2 ^ 62) y
   pub total : Up (2 ^ 62) (addR ints x y)
+
+-- so it is where both are at most 2^60
+pub addable : (x y : Exact.Root ℤ) → Up (2 ^ 60) x → Up (2 ^ 60) y → Addable x y
+addable x y g h = record { left = up-le (omega arith) g; right = up-le (omega arith) h; total = up-le (omega arith) (up-add g h) }
 
 fits : (x : ℤ) → natAbs x ≤ 2 ^ 62 → SFits w64 x
 fits x h = sfits-abs (omega arith)
@@ -56,6 +62,36 @@ module _ (x y : Root) (h : Addable (root x) (root y)) where
       root-path
       (sum-held (x .p) (y .p) (h .left .p-small) (h .right .p-small) (h .total .p-small))
       (sum-held (x .q) (y .q) (h .left .q-small) (h .right .q-small) (h .total .q-small))
+
+-- ---- differences
+module _ (x y : ℤ) (hx : natAbs x ≤ 2 ^ 62) (hy : natAbs y ≤ 2 ^ 62) (hd : natAbs (x -ℤ y) ≤ 2 ^ 62) where
+  difference-is : held w64 x -ℤ held w64 y ≡ x -ℤ y
+  difference-is = ap₂ _-ℤ_ (back x hx) (back y hy)
+
+  pub difference-fits : SFits w64 (held w64 x -ℤ held w64 y)
+  difference-fits = rw difference-is (fits (x -ℤ y) hd)
+
+  pub difference-held : held w64 (held w64 x -ℤ held w64 y) ≡ x -ℤ y
+  difference-held = toZ-ofZ difference-fits ∙ difference-is
+
+pub record Subtractable (x y : Exact.Root ℤ) : Type 0 where
+  pub left : Up (2 ^ 62) x
+  pub right : Up (2 ^ 62) y
+  pub rest : Up (2 ^ 62) (subR ints x y)
+
+module _ (x y : Root) (h : Subtractable (root x) (root y)) where
+  pub p-less : SFits w64 (held w64 (x .p) -ℤ held w64 (y .p))
+  p-less = difference-fits (x .p) (y .p) (h .left .p-small) (h .right .p-small) (h .rest .p-small)
+
+  pub q-less : SFits w64 (held w64 (x .q) -ℤ held w64 (y .q))
+  q-less = difference-fits (x .q) (y .q) (h .left .q-small) (h .right .q-small) (h .rest .q-small)
+
+  pub subtracted : _≡_ {A = Exact.Root ℤ}
+      (record { p = held w64 (held w64 (x .p) -ℤ held w64 (y .p)); q = held w64 (held w64 (x .q) -ℤ held w64 (y .q)) }) (subR ints (root x) (root y))
+  subtracted =
+      root-path
+      (difference-held (x .p) (y .p) (h .left .p-small) (h .right .p-small) (h .rest .p-small))
+      (difference-held (x .q) (y .q) (h .left .q-small) (h .right .q-small) (h .rest .q-small))
 
 -- ---- negatives
 module _ (x : ℤ) (h : natAbs x ≤ 2 ^ 62) where
@@ -93,6 +129,9 @@ module _ (x : Root) (h : Up (2 ^ 61) (root x)) where
       (back (x .p) (omega (arith, h .p-small)))
 
 -- ---- divided by root two to the n
+pub lift-each : (n : ℕ) (v w : Exact.Vect ℤ) → liftR n (v .x) ≡ w .x → liftR n (v .y) ≡ w .y → liftR n (v .z) ≡ w .z → lift n v ≡ w
+lift-each n v w x y z = lift-parts n v ∙ vect-path x y z
+
 shift-is : (m : ℕ) (z : ℤ) → SFits w64 z → held w64 (shrZ (held w64 z) (2 ^ m)) ≡ shrZ z (2 ^ m)
 shift-is m z f = rw (toZ-ofZ f) (toZ-ofZ less)
   where
@@ -100,13 +139,14 @@ shift-is m z f = rw (toZ-ofZ f) (toZ-ofZ less)
     less = record { sfits = omega (arith, mag-shr z (2 ^ m), f .sfits) }
 
 module _ (x : Root) (n : ℕ) (fp : SFits w64 (x .p)) (fq : SFits w64 (x .q)) (d : DividesR n (root x)) where
-  pub divided-even : n % 2 ≡ 0 → (r : Root) → r .p ≡ held w64 (shrZ (held w64 (x .p)) (2 ^ (n / 2)))
-      → r .q ≡ held w64 (shrZ (held w64 (x .q)) (2 ^ (n / 2))) → liftR n (root r) ≡ root x
-  divided-even e r p q =
-      ap (liftR n) (root-path (p ∙ shift-is (n / 2) (x .p) fp) (q ∙ shift-is (n / 2) (x .q) fq)) ∙ evenly-lift n (n / 2) (root x) (omega arith) d
+  pub divided-even : n % 2 ≡ 0
+      → liftR n (record { p = held w64 (shrZ (held w64 (x .p)) (2 ^ (n / 2))); q = held w64 (shrZ (held w64 (x .q)) (2 ^ (n / 2))) }) ≡ root x
+  divided-even e =
+      ap (liftR n) (root-path (shift-is (n / 2) (x .p) fp) (shift-is (n / 2) (x .q) fq)) ∙ evenly-lift n (n / 2) (root x) (omega arith) d
 
-  pub divided-odd : (n % 2 ≡ 0 → ⊥) → (r : Root) → r .p ≡ held w64 (shrZ (held w64 (x .q)) (2 ^ (n / 2)))
-      → r .q ≡ held w64 (shrZ (held w64 (x .p)) (2 ^ (n / 2 + 1))) → liftR n (root r) ≡ root x
-  divided-odd e r p q =
-      ap (liftR n) (root-path (p ∙ shift-is (n / 2) (x .q) fq) (q ∙ shift-is (n / 2 + 1) (x .p) fp ∙ ap (λ m. shrZ (x .p) (2 ^ m)) (add-one (n / 2))))
+  pub divided-odd : (n % 2 ≡ 0 → ⊥)
+      → liftR n (record { p = held w64 (shrZ (held w64 (x .q)) (2 ^ (n / 2))); q = held w64 (shrZ (held w64 (x .p)) (2 ^ (n / 2 + 1))) }) ≡ root x
+  divided-odd e =
+      ap (liftR n)
+      (root-path (shift-is (n / 2) (x .q) fq) (shift-is (n / 2 + 1) (x .p) fp ∙ ap (λ m. shrZ (x .p) (2 ^ m)) (add-one (n / 2))))
       ∙ oddly-lift n (n / 2) (root x) (omega (arith, e)) d

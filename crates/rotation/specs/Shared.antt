@@ -1,16 +1,19 @@
 -- What power of root two divides all nine entries, told by the trailing zeros of two numbers: the `or` of all p, and that of all q. Assumes nothing.
 use mathlib.Core.Path.{_≡_, refl, sym, _∙_, ap, subst}
-use Prim.Native.Nat.{ℕ, suc, _+_, _*_, _/_, _%_, _≤_, _<_, min}
+use Prim.Native.Nat.{ℕ, suc, _+_, _-_, _*_, _/_, _%_, _≤_, _<_, min}
 use native.Mathlib.Omega.{arith}
 use lib.Bits.{bitOr}
 use lib.IntN.{ℤ, pos, natAbs}
 use mir.Syntax.{w64}
 use mir.Val.{SFits, ofZ, toZ}
 use mir.Facts.{toZ-ofZ, ofZ-toZ}
-use Rattle.exact.specs.Meaning.Rotation.{Root, Three, Vect}
+use Rattle.exact.specs.Meaning.Rotation.{Root, Three, Vect, lift}
+use Rattle.exact.specs.Whole.Machine.{held}
 use Rattle.exact.specs.Whole.Twos.{TwoTo, Zeros, orZ, or-fits, or-sfits, or-each, or-all, less-often}
 use Rattle.exact.specs.Algebra.RootPower.{DividesR}
-use Rattle.exact.specs.Rotation.Least.{DividesV, Divides, Deepest}
+use Rattle.exact.specs.Rotation.Least.{DividesV, Divides, Deepest, lifts}
+use Rattle.rotation.specs.Meaning.{vect, axesOf}
+use Rattle.rotation.specs.declared.Rotation.{Rotation}
 
 -- r has the trailing zeros that a, b and c share
 pub record Common (a b c r : ℤ) : Type 0 where
@@ -38,6 +41,19 @@ or-common a b c fa fb fc =
     fab : SFits w64 (orZ a b)
     fab = or-sfits a b fa fb
 
+-- what was said of the numbers read back
+pub common-back : (a b c r : ℤ) → SFits w64 a → SFits w64 b → SFits w64 c → SFits w64 r → Common (held w64 a) (held w64 b) (held w64 c) r
+    → Common a b c (held w64 r)
+common-back a b c r fa fb fc fr h =
+    record {
+      each = λ m l t.
+          let s = h .each m l (subst (TwoTo m) (toZ-ofZ fr) t) in
+          (subst (TwoTo m) (toZ-ofZ fa) (s .0), (subst (TwoTo m) (toZ-ofZ fb) (s .1 .0), subst (TwoTo m) (toZ-ofZ fc) (s .1 .1)));
+      all = λ m l x y z.
+          subst (TwoTo m) (sym (toZ-ofZ fr))
+          (h .all m l (subst (TwoTo m) (sym (toZ-ofZ fa)) x) (subst (TwoTo m) (sym (toZ-ofZ fb)) y) (subst (TwoTo m) (sym (toZ-ofZ fc)) z));
+    }
+
 -- ---- how often 2 divides a number, 64 times if it is 0
 pub record TwosIn (x : ℤ) (n : ℕ) : Type 0 where
   pub so-often : TwoTo n x
@@ -64,18 +80,33 @@ pub record Nine (part : Root ℤ → ℤ) (m : Three (Vect ℤ)) (r : ℤ) : Typ
   pub each : (j : ℕ) → j ≤ 64 → TwoTo j r → Each part j (m .x) × (Each part j (m .y) × Each part j (m .z))
   pub all : (j : ℕ) → j ≤ 64 → Each part j (m .x) → Each part j (m .y) → Each part j (m .z) → TwoTo j r
 
--- a, b and c share what the columns do
+abbrev pub NineP : Three (Vect ℤ) → ℤ → Type 0
+NineP = Nine (λ r. r .p)
+
+abbrev pub NineQ : Three (Vect ℤ) → ℤ → Type 0
+NineQ = Nine (λ r. r .q)
+
+-- a, b and c share what the columns do, and r what a, b and c share, as they are read back
 module _ (part : Root ℤ → ℤ) (m : Three (Vect ℤ)) (a b c r : ℤ)
     (x : Common (part (m .x .x)) (part (m .x .y)) (part (m .x .z)) a)
     (y : Common (part (m .y .x)) (part (m .y .y)) (part (m .y .z)) b)
-    (z : Common (part (m .z .x)) (part (m .z .y)) (part (m .z .z)) c) where
-  nine : Common a b c r → Nine part m r
-  nine h =
+    (z : Common (part (m .z .x)) (part (m .z .y)) (part (m .z .z)) c)
+    (fa : SFits w64 a) (fb : SFits w64 b) (fc : SFits w64 c) (fr : SFits w64 r) where
+  nine : Common (held w64 a) (held w64 b) (held w64 c) r → Nine part m (held w64 r)
+  nine k =
+      let h = common-back a b c r fa fb fc fr k in
       record {
         each = λ j l t. let s = h .each j l t in (x .each j l (s .0), (y .each j l (s .1 .0), z .each j l (s .1 .1)));
         all = λ j l f g k.
             h .all j l (x .all j l (f .0) (f .1 .0) (f .1 .1)) (y .all j l (g .0) (g .1 .0) (g .1 .1)) (z .all j l (k .0) (k .1 .0) (k .1 .1));
       }
+
+module _ (m : Three (Vect ℤ)) (a b c r : ℤ) (fa : SFits w64 a) (fb : SFits w64 b) (fc : SFits w64 c) (fr : SFits w64 r) where
+  pub nine-p : SharesP (m .x) a → SharesP (m .y) b → SharesP (m .z) c → Common (held w64 a) (held w64 b) (held w64 c) r → NineP m (held w64 r)
+  nine-p x y z = nine (λ r. r .p) m a b c r x y z fa fb fc fr
+
+  pub nine-q : SharesQ (m .x) a → SharesQ (m .y) b → SharesQ (m .z) c → Common (held w64 a) (held w64 b) (held w64 c) r → NineQ m (held w64 r)
+  nine-q x y z = nine (λ r. r .q) m a b c r x y z fa fb fc fr
 
 module _ (m : Three (Vect ℤ)) (f i j : ℕ) (few : f ≤ 121) (P Q : ℤ)
     (p : Nine (λ r. r .p) m P) (q : Nine (λ r. r .q) m Q) (p-twos : TwosIn P i) (q-twos : TwosIn Q j) where
@@ -116,10 +147,26 @@ module _ (m : Three (Vect ℤ)) (f i j : ℕ) (few : f ≤ 121) (P Q : ℤ)
         column : {v : Vect ℤ} → DividesV (suc n) v → Each (λ r. r .q) (suc j) v
         column {v} g = subst (λ k. Each (λ r. r .q) k v) up (g .x-so .q-so, (g .y-so .q-so, g .z-so .q-so))
 
-  pub deepest : (n : ℕ) → n ≡ min (min (2 * i) (2 * j + 1)) f → Deepest f m n
+  deepest : (n : ℕ) → n ≡ min (min (2 * i) (2 * j + 1)) f → Deepest f m n
   deepest n e =
       record {
         within = omega arith;
         so-often = divides n (omega arith) (omega arith);
         no-more = λ l d. omega (arith, not-p n d l, not-q n d l);
       }
+
+-- as they are read back
+pub deepest-found : (m : Three (Vect ℤ)) (f i j n r : ℕ) → f ≤ 121 → (P Q : ℤ) → SFits w64 P → SFits w64 Q → NineP m P → NineQ m Q
+    → TwosIn (held w64 P) i → TwosIn (held w64 Q) j → n ≡ min (2 * i) (2 * j + 1) → r ≡ min n f → Deepest f m r
+deepest-found m f i j n r few P Q fp fq p q p-twos q-twos e g =
+    deepest m f i j few P Q p q (subst (λ (x : ℤ). TwosIn x i) (toZ-ofZ fp) p-twos) (subst (λ (x : ℤ). TwosIn x j) (toZ-ofZ fq) q-twos) r
+    (g ∙ ap (λ k. min k f) e)
+
+-- ---- r is s divided by root two to the n
+pub record Lowered (n : ℕ) (s r : Rotation) : Type 0 where
+  pub lifted : lifts n (axesOf r) ≡ axesOf s
+  pub e-is : r .e ≡ s .e - n
+
+pub lowered : (n : ℕ) (s r : Rotation) → lift n (vect (r .x)) ≡ vect (s .x) → lift n (vect (r .y)) ≡ vect (s .y) → lift n (vect (r .z)) ≡ vect (s .z)
+    → r .e ≡ s .e - n → Lowered n s r
+lowered n s r x y z e = record { lifted = λ i. record { x = x i; y = y i; z = z i }; e-is = e }

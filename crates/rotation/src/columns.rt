@@ -2,11 +2,10 @@
 ghost use mathlib.Core.Path.{_≡_};
 ghost use Prim.Native.Nat.{_+_, _^_, _≤_};
 ghost use Rattle.exact.specs.Meaning.Number.{Sized, ints};
-ghost use Rattle.exact.specs.Meaning.Triple.{Unitary};
-ghost use Rattle.exact.specs.Rotation.Sizes.{Up};
-ghost use Rattle.exact.specs.Rotation.Worked.{squareRe, squareIm, twiceRe, twiceIm, norms, columns, with-n};
+ghost use Rattle.exact.specs.Rotation.Worked.{squareRe, squareIm, twiceRe, twiceIm, norms, columns};
 ghost use Rattle.ring.specs.Meaning.{quad};
-ghost use Rattle.rotation.specs.Meaning.{root, axesOf};
+ghost use Rattle.rotation.specs.Meaning.{root, vect, rotationOf};
+ghost use Rattle.rotation.specs.Columns.{HasParts, Twiced, Normed, Held};
 use crate::Rotation;
 use crate::root::Root;
 use crate::root::Vect;
@@ -20,7 +19,7 @@ struct Parts {
 
 fn square(x: ZOmega) -> Parts
     requires { ⌜ Sized (2 ^ 30) (quad x) ⌝ }
-    ensures { λ r. ⌜ root (r .re) ≡ squareRe ints (quad x) ⌝ ∗ ⌜ root (r .im) ≡ squareIm ints (quad x) ⌝ }
+    ensures { λ r. ⌜ HasParts (squareRe ints (quad x)) (squareIm ints (quad x)) r ⌝ }
 {
     let a = x.a;
     let b = x.b;
@@ -39,8 +38,8 @@ fn square(x: ZOmega) -> Parts
 
 // Twice the parts of a product.
 fn twice(x: ZOmega) -> Parts
-    requires { ⌜ Sized (2 ^ 62) (quad x) ⌝ ∗ ⌜ Up (2 ^ 62) (twiceRe ints (quad x)) ⌝ ∗ ⌜ Up (2 ^ 62) (twiceIm ints (quad x)) ⌝ }
-    ensures { λ r. ⌜ root (r .re) ≡ twiceRe ints (quad x) ⌝ ∗ ⌜ root (r .im) ≡ twiceIm ints (quad x) ⌝ }
+    requires { ⌜ Twiced (quad x) ⌝ }
+    ensures { λ r. ⌜ HasParts (twiceRe ints (quad x)) (twiceIm ints (quad x)) r ⌝ }
 {
     let a = x.a;
     let b = x.b;
@@ -53,7 +52,7 @@ fn twice(x: ZOmega) -> Parts
 
 // z·z* - w·w*
 fn norm_difference(z: ZOmega, w: ZOmega) -> Root
-    requires { ⌜ Sized (2 ^ 30) (quad z) ⌝ ∗ ⌜ Sized (2 ^ 30) (quad w) ⌝ ∗ ⌜ Up (2 ^ 62) (norms ints (quad z) (quad w)) ⌝ }
+    requires { ⌜ Normed (quad z) (quad w) ⌝ }
     ensures { λ r. ⌜ root r ≡ norms ints (quad z) (quad w) ⌝ }
 {
     let a = z.squares();
@@ -63,38 +62,82 @@ fn norm_difference(z: ZOmega, w: ZOmega) -> Root
     Root { p: a - b, q: c - d }
 }
 
-// Over root two to the 2k.
-pub(crate) fn columns(k: u8, z: ZOmega, w: ZOmega) -> Rotation
-    requires { ⌜ k ≤ 60 ⌝ ∗ ⌜ Unitary (with-n k 0 (quad z) (quad w)) ⌝ }
-    ensures { λ r. ⌜ axesOf r ≡ columns ints (quad z) (quad w) ⌝ ∗ ⌜ r .e ≡ k + k ⌝ }
+fn x_becomes(z: ZOmega, w: ZOmega) -> Vect
+    requires { ⌜ Held (quad z) (quad w) ⌝ }
+    ensures { λ r. ⌜ vect r ≡ columns ints (quad z) (quad w) .x ⌝ }
 {
     let s = square(z);
     let t = square(w);
+    let product = z.mul(w);
+    let m = twice(product);
+    let a = s.re;
+    let b = s.im;
+    let c = t.re;
+    let d = t.im;
+    let e = m.re;
+    let minus = b.neg();
+    let x = a.sub(c);
+    let y = minus.sub(d);
+    let z_part = e.neg();
+    Vect {
+        x: x,
+        y: y,
+        z: z_part,
+    }
+}
+
+fn y_becomes(z: ZOmega, w: ZOmega) -> Vect
+    requires { ⌜ Held (quad z) (quad w) ⌝ }
+    ensures { λ r. ⌜ vect r ≡ columns ints (quad z) (quad w) .y ⌝ }
+{
+    let s = square(z);
+    let t = square(w);
+    let product = z.mul(w);
+    let m = twice(product);
+    let a = s.re;
+    let b = s.im;
+    let c = t.re;
+    let d = t.im;
+    let e = m.im;
+    let x = b.sub(d);
+    let y = a.add(c);
+    let z_part = e.neg();
+    Vect {
+        x: x,
+        y: y,
+        z: z_part,
+    }
+}
+
+fn z_becomes(z: ZOmega, w: ZOmega) -> Vect
+    requires { ⌜ Held (quad z) (quad w) ⌝ }
+    ensures { λ r. ⌜ vect r ≡ columns ints (quad z) (quad w) .z ⌝ }
+{
     let conj = z.conj();
-    let straight = z.mul(w);
-    let crossed = conj.mul(w);
-    let m = twice(straight);
-    let n = twice(crossed);
+    let product = conj.mul(w);
+    let m = twice(product);
     let norm = norm_difference(z, w);
-    let p = s.re;
-    let q = s.im;
-    let u = t.re;
-    let v = t.im;
-    let minus_q = q.neg();
-    let minus_u = u.neg();
-    let minus_v = v.neg();
-    let xx = p.add(minus_u);
-    let xy = minus_q.add(minus_v);
-    let yx = q.add(minus_v);
-    let yy = p.add(u);
-    let real = m.re;
-    let imaginary = m.im;
-    let xz = real.neg();
-    let yz = imaginary.neg();
-    let zx = n.re;
-    let zy = n.im;
-    let x = Vect { x: xx, y: xy, z: xz };
-    let y = Vect { x: yx, y: yy, z: yz };
-    let z_to = Vect { x: zx, y: zy, z: norm };
-    Rotation { x: x, y: y, z: z_to, e: k + k }
+    let a = m.re;
+    let b = m.im;
+    Vect {
+        x: a,
+        y: b,
+        z: norm,
+    }
+}
+
+// Over root two to the 2k.
+pub(crate) fn columns(k: u8, z: ZOmega, w: ZOmega) -> Rotation
+    requires { ⌜ k ≤ 60 ⌝ ∗ ⌜ Held (quad z) (quad w) ⌝ }
+    ensures { λ r. ⌜ rotationOf r ≡ record { m = columns ints (quad z) (quad w); e = k + k } ⌝ }
+{
+    let x = x_becomes(z, w);
+    let y = y_becomes(z, w);
+    let z_to = z_becomes(z, w);
+    Rotation {
+        x: x,
+        y: y,
+        z: z_to,
+        e: k + k,
+    }
 }

@@ -1,9 +1,9 @@
 // How often root two divides all nine entries of a rotation, and a rotation divided by it.
 ghost use mathlib.Core.Path.{_≡_};
-ghost use Prim.Native.Nat.{_-_, _≤_, min};
-ghost use Rattle.exact.specs.Rotation.Least.{Divides, Deepest, lifts};
+ghost use Prim.Native.Nat.{_≤_, min};
+ghost use Rattle.exact.specs.Rotation.Least.{Divides, Deepest};
 ghost use Rattle.rotation.specs.Meaning.{axesOf};
-ghost use Rattle.rotation.specs.Shared.{TwosIn};
+ghost use Rattle.rotation.specs.Shared.{TwosIn, NineP, NineQ, Lowered};
 use crate::Rotation;
 use crate::root::common;
 
@@ -25,39 +25,61 @@ fn lower(a: u8, b: u8) -> u8
 }
 
 impl Rotation {
+    // Their trailing zeros are those that the nine p's, and the nine q's, have in common.
+    fn wholes(self) -> i64
+        ensures { λ r. ⌜ NineP (axesOf self) r ⌝ }
+    {
+        let x = self.x;
+        let y = self.y;
+        let z = self.z;
+        let a = x.wholes();
+        let b = y.wholes();
+        let c = z.wholes();
+        common(a, b, c)
+    }
+
+    fn roots(self) -> i64
+        ensures { λ r. ⌜ NineQ (axesOf self) r ⌝ }
+    {
+        let x = self.x;
+        let y = self.y;
+        let z = self.z;
+        let a = x.roots();
+        let b = y.roots();
+        let c = z.roots();
+        common(a, b, c)
+    }
+
     // At most the exponent. Of p + q·root two an even power of root two is told by p, an odd one by q.
     pub(crate) fn depth(self) -> u8
         requires { ⌜ self .e ≤ 121 ⌝ }
         ensures { λ r. ⌜ Deepest (self .e) (axesOf self) r ⌝ }
     {
-        let x = self.x;
-        let y = self.y;
-        let z = self.z;
         let e = self.e;
-        let x_wholes = x.wholes();
-        let y_wholes = y.wholes();
-        let z_wholes = z.wholes();
-        let x_roots = x.roots();
-        let y_roots = y.roots();
-        let z_roots = z.roots();
-        let wholes = common(x_wholes, y_wholes, z_wholes);
-        let roots = common(x_roots, y_roots, z_roots);
-        let by_wholes = 2 * twos(wholes);
-        let by_roots = 2 * twos(roots) + 1;
-        let n = lower(by_wholes, by_roots);
+        let wholes = self.wholes();
+        let roots = self.roots();
+        let p_twos = twos(wholes);
+        let q_twos = twos(roots);
+        let n = lower(2 * p_twos, 2 * q_twos + 1);
         lower(n, e)
     }
 
     pub(crate) fn over(self, n: u8) -> Rotation
         requires { ⌜ self .e ≤ 121 ⌝ ∗ ⌜ n ≤ self .e ⌝ ∗ ⌜ Divides n (axesOf self) ⌝ }
-        ensures { λ r. ⌜ lifts n (axesOf r) ≡ axesOf self ⌝ ∗ ⌜ r .e ≡ self .e - n ⌝ }
+        ensures { λ r. ⌜ Lowered n self r ⌝ }
     {
         let a = self.x;
         let b = self.y;
         let c = self.z;
+        let e = self.e;
         let x = a.over(n);
         let y = b.over(n);
         let z = c.over(n);
-        Rotation { x: x, y: y, z: z, e: self.e - n }
+        Rotation {
+            x: x,
+            y: y,
+            z: z,
+            e: e - n,
+        }
     }
 }

@@ -39,7 +39,12 @@ fn nothing() -> Rotation
 {
     let o = Root { p: 0, q: 0 };
     let x = Vect { x: o, y: o, z: o };
-    Rotation { x: x, y: x, z: x, e: 0 }
+    Rotation {
+        x: x,
+        y: x,
+        z: x,
+        e: 0,
+    }
 }
 
 // The rotation of a unitary triple, not yet over the least power.
@@ -58,12 +63,18 @@ pub fn rotate(k: i64, n: u8, z: ZOmega, w: ZOmega) -> Answer
     let refusal = unitary::check(k, z, w);
     if refusal != exact::ACCEPTED {
         let none = nothing();
-        return Answer { refusal: refusal, rotation: none };
+        return Answer {
+            refusal: refusal,
+            rotation: none,
+        };
     }
     let r = worked_out(k as u8, n, z, w);
     let depth = r.depth();
     let least = r.over(depth);
-    Answer { refusal: 0, rotation: least }
+    Answer {
+        refusal: 0,
+        rotation: least,
+    }
 }
 
 // How many T letters the normal word with this matrix has: the least exponent of its rotation.
@@ -72,9 +83,15 @@ pub fn t_count(k: i64, n: u8, z: ZOmega, w: ZOmega) -> Count
 {
     let refusal = unitary::check(k, z, w);
     if refusal != exact::ACCEPTED {
-        return Count { refusal: refusal, tees: 0 };
+        return Count {
+            refusal: refusal,
+            tees: 0,
+        };
     }
     let r = worked_out(k as u8, n, z, w);
     let depth = r.depth();
-    Count { refusal: 0, tees: r.e - depth }
+    Count {
+        refusal: 0,
+        tees: r.e - depth,
+    }
 }

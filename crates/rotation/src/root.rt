@@ -6,9 +6,9 @@ ghost use Rattle.exact.specs.Meaning.Rotation.{addR, negR, timesR, lift, addV, 
 ghost use Rattle.exact.specs.Algebra.RootPower.{DividesR, liftR};
 ghost use Rattle.exact.specs.Rotation.Sizes.{Up, UpV};
 ghost use Rattle.exact.specs.Rotation.Least.{DividesV};
-ghost use Rattle.exact.specs.Rotation.Worked.{negV};
+ghost use Rattle.exact.specs.Rotation.Worked.{subR, negV};
 ghost use Rattle.rotation.specs.Meaning.{root, vect};
-ghost use Rattle.rotation.specs.Code.{Addable};
+ghost use Rattle.rotation.specs.Code.{Addable, Subtractable};
 ghost use Rattle.rotation.specs.Shared.{Common, SharesP, SharesQ};
 
 pub struct Root {
@@ -41,6 +41,17 @@ impl Root {
         Root { p: a + c, q: b + d }
     }
 
+    pub(crate) fn sub(self, o: Root) -> Root
+        requires { ⌜ Subtractable (root self) (root o) ⌝ }
+        ensures { λ r. ⌜ root r ≡ subR ints (root self) (root o) ⌝ }
+    {
+        let a = self.p;
+        let b = self.q;
+        let c = o.p;
+        let d = o.q;
+        Root { p: a - c, q: b - d }
+    }
+
     pub(crate) fn neg(self) -> Root
         requires { ⌜ Up (2 ^ 62) (root self) ⌝ }
         ensures { λ r. ⌜ root r ≡ negR ints (root self) ⌝ }
@@ -69,9 +80,15 @@ impl Root {
         let b = self.q;
         let m = n / 2;
         if n % 2 == 0 {
-            return Root { p: a >> m, q: b >> m };
+            return Root {
+                p: a >> m,
+                q: b >> m,
+            };
         }
-        Root { p: b >> m, q: a >> (m + 1) }
+        Root {
+            p: b >> m,
+            q: a >> (m + 1),
+        }
     }
 }
 

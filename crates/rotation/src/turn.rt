@@ -12,33 +12,45 @@ impl Rotation {
     // X becomes what Y became, and Y minus what X became.
     fn quarter(self) -> Rotation
         requires { ⌜ UpC (2 ^ 60) (axesOf self) ⌝ }
-        ensures { λ r. ⌜ axesOf r ≡ quarter ints (axesOf self) ⌝ ∗ ⌜ r .e ≡ self .e ⌝ }
+        ensures { λ r. ⌜ rotationOf r ≡ record { m = quarter ints (axesOf self); e = self .e } ⌝ }
     {
         let a = self.x;
         let b = self.y;
         let c = self.z;
+        let e = self.e;
         let minus = a.neg();
-        Rotation { x: b, y: minus, z: c, e: self.e }
+        Rotation {
+            x: b,
+            y: minus,
+            z: c,
+            e: e,
+        }
     }
 
     fn eighth(self) -> Rotation
         requires { ⌜ UpC (2 ^ 60) (axesOf self) ⌝ ∗ ⌜ self .e < 255 ⌝ }
-        ensures { λ r. ⌜ axesOf r ≡ eighth ints (axesOf self) ⌝ ∗ ⌜ r .e ≡ self .e + 1 ⌝ }
+        ensures { λ r. ⌜ rotationOf r ≡ record { m = eighth ints (axesOf self); e = self .e + 1 } ⌝ }
     {
         let a = self.x;
         let b = self.y;
         let c = self.z;
+        let e = self.e;
         let minus = a.neg();
         let x = a.add(b);
         let y = b.add(minus);
         let z = c.times();
-        Rotation { x: x, y: y, z: z, e: self.e + 1 }
+        Rotation {
+            x: x,
+            y: y,
+            z: z,
+            e: e + 1,
+        }
     }
 
     // At most three.
     fn quarters(self, n: u8) -> Rotation
         requires { ⌜ UpC (2 ^ 60) (axesOf self) ⌝ ∗ ⌜ n < 4 ⌝ }
-        ensures { λ r. ⌜ axesOf r ≡ quarters n (axesOf self) ⌝ ∗ ⌜ r .e ≡ self .e ⌝ }
+        ensures { λ r. ⌜ rotationOf r ≡ record { m = quarters n (axesOf self); e = self .e } ⌝ }
     {
         if n == 0 {
             return self;

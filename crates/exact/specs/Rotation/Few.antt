@@ -105,10 +105,10 @@ eighth-lifts : (m : Three (Vect ℤ)) → Agree m → lifts 1 (halfways (eighth 
 eighth-lifts m a =
     let x-is = lifts-halfway (eighth ints m .x) (a .x-even) (a .y-even) (a .z-even) in
     let y-is =
-        lifts-halfway (eighth ints m .y)
-        (turned (m .x .x .p) (m .y .x .p) (a .x-even))
-        (turned (m .x .y .p) (m .y .y .p) (a .y-even))
-        (turned (m .x .z .p) (m .y .z .p) (a .z-even)) in
+    lifts-halfway (eighth ints m .y)
+    (turned (m .x .x .p) (m .y .x .p) (a .x-even))
+    (turned (m .x .y .p) (m .y .y .p) (a .y-even))
+    (turned (m .x .z .p) (m .y .z .p) (a .z-even)) in
     let z-is = lifts-halfway (eighth ints m .z) (odd-double (m .z .x .q)) (odd-double (m .z .y .q)) (odd-double (m .z .z .q)) in
     λ i. record { x = x-is i; y = y-is i; z = z-is i }
 

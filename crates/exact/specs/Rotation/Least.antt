@@ -1,8 +1,8 @@
 -- The least exponent of a rotation: there is one; of a normal word's matrix it is the number of its T letters (Giles and Selinger), and no word with
 -- that matrix has fewer; and how it is found in a rotation that is written with another exponent. Assumes nothing.
-use mathlib.Core.Path.{_≡_, sym, _∙_, ap, subst}
+use mathlib.Core.Path.{_≡_, refl, sym, _∙_, ap, subst}
 use mathlib.Core.List.{List}
-use Prim.Native.Nat.{ℕ, suc, _+_, _-_, _≤_, _<_}
+use Prim.Native.Nat.{ℕ, zero, suc, _+_, _-_, _/_, _%_, _≤_, _<_}
 use native.Mathlib.Omega.{arith}
 use lib.IntN.{ℤ}
 use Rattle.exact.specs.Meaning.Number.{ints}
@@ -10,9 +10,9 @@ use Rattle.exact.specs.Meaning.Matrix.{Matrix, Same}
 use Rattle.exact.specs.Meaning.Word.{Letter, word, tees}
 use Rattle.exact.specs.Meaning.Normal.{Normal}
 use Rattle.exact.specs.Meaning.Rotation.{Root, Three, Vect, turnedBy, lift, Rotation, SameRotation, LeastExponent, RotationOf}
-use Rattle.exact.specs.Algebra.RootPower.{liftR, DividesR, lift-divides, less-divides}
+use Rattle.exact.specs.Algebra.RootPower.{liftR, DividesR, lift-divides, less-divides, evenly, oddly, evenly-lift, oddly-lift}
 use Rattle.exact.specs.Matrices.Same.{Same-refl}
-use Rattle.exact.specs.Rotation.Vectors.{turn, lift-add, lift-cancel, lift-parts}
+use Rattle.exact.specs.Rotation.Vectors.{vect-path, turn, lift-add, lift-cancel, lift-parts}
 use Rattle.exact.specs.Rotation.Turns.{turns-same, turns-word}
 use Rattle.exact.specs.Rotation.Parity.{Seen, least}
 use Rattle.exact.specs.Rotation.Laws.{axes-of, turns-all, rotation-sym, rotation-trans, rotation-same, rotation-written}
@@ -108,6 +108,34 @@ module _ (f n : ℕ) (m low : Three (Vect ℤ)) (is : lifts n low ≡ m) where
             y-so = of-lift (suc n) k (m .y) (s .m .y) (omega arith) (struck (s .e) f (m .y) (s .m .y) (omega arith) (e .y-same));
             z-so = of-lift (suc n) k (m .z) (s .m .z) (omega arith) (struck (s .e) f (m .z) (s .m .z) (omega arith) (e .z-same));
           })
+
+-- the quotient, where root two to the n divides them
+pub record Quotient (n : ℕ) (m : Three (Vect ℤ)) : Type 0 where
+  pub low : Three (Vect ℤ)
+  pub is : lifts n low ≡ m
+
+pub quotient : (n : ℕ) (m : Three (Vect ℤ)) → Divides n m → Quotient n m
+quotient n m d = go (n % 2) refl
+  where
+    by : (over : Root ℤ → Root ℤ) → ((r : Root ℤ) → DividesR n r → liftR n (over r) ≡ r) → Quotient n m
+    by over back =
+        record {
+          low = record {
+            x = record { x = over (m .x .x); y = over (m .x .y); z = over (m .x .z) };
+            y = record { x = over (m .y .x); y = over (m .y .y); z = over (m .y .z) };
+            z = record { x = over (m .z .x); y = over (m .z .y); z = over (m .z .z) };
+          };
+          is = λ i. record { x = whole (m .x) (d .x-so) i; y = whole (m .y) (d .y-so) i; z = whole (m .z) (d .z-so) i };
+        }
+      where
+        whole : (v : Vect ℤ) → DividesV n v → lift n (record { x = over (v .x); y = over (v .y); z = over (v .z) }) ≡ v
+        whole v h =
+            lift-parts n (record { x = over (v .x); y = over (v .y); z = over (v .z) })
+            ∙ vect-path (back (v .x) (h .x-so)) (back (v .y) (h .y-so)) (back (v .z) (h .z-so))
+
+    go : (b : ℕ) → n % 2 ≡ b → Quotient n m
+    go zero e = by (evenly (n / 2)) (λ r. evenly-lift n (n / 2) r (omega arith))
+    go (suc b) e = by (oddly (n / 2)) (λ r. oddly-lift n (n / 2) r (omega arith))
 
 -- what stays when it is written with less
 pub lowered-its : {r s : Rotation} {e : ℕ} → SameRotation r s → LeastExponent r e → s .e ≡ e → LeastExponent s (s .e)

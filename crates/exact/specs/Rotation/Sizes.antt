@@ -99,6 +99,9 @@ ups-to j m h = record { x-up = of (m .x) (h .x); y-up = of (m .y) (h .y); z-up =
 pub up-neg : {n : ℕ} {r : Root ℤ} → Up n r → Up n (negR ints r)
 up-neg {n} {r} h = record { p-small = rw (natAbs-neg (r .p)) (h .p-small); q-small = rw (natAbs-neg (r .q)) (h .q-small) }
 
+pub up-of-neg : {n : ℕ} (r : Root ℤ) → Up n (negR ints r) → Up n r
+up-of-neg r h = record { p-small = rw (natAbs-neg (r .p)) at (h .p-small); q-small = rw (natAbs-neg (r .q)) at (h .q-small) }
+
 pub up-add : {m n : ℕ} {r s : Root ℤ} → Up m r → Up n s → Up (m + n) (addR ints r s)
 up-add {m} {n} {r} {s} g h =
     record {

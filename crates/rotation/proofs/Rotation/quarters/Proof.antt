@@ -1,37 +1,29 @@
+-- `Rotation::quarters` meets its contract: one after the other.
 use borrow.Author.Needs.{needs}
+use Rattle.rotation.specs.Turned.{once-up, done-0, done-1, done-2, done-3}
 use Rattle.rotation.proofs.Rotation.quarters.Statement.{statement}
 use Rattle.rotation.proofs.Rotation.quarters.Tie as tie
-use Rattle.rotation.proofs.Rotation.quarters.Reads as reads
-use Rattle.rotation.proofs.Rotation.quarters.Lts as lts
-use Rattle.rotation.proofs.Rotation.quarter.Reads as quarter-reads
 
--- src/turn.rt:44:13
 returns : tie.Need-returns
-returns c = ?
+returns c = search done-0
 
--- src/turn.rt:46:13
 quarter-requires : tie.Need-quarter-requires
 quarter-requires c κs = search needs
 
--- src/turn.rt:48:13
 returns-2 : tie.Need-returns-2
-returns-2 c = ?
+returns-2 c = search done-1
 
--- src/turn.rt:50:13
 quarter-requires-2 : tie.Need-quarter-requires-2
-quarter-requires-2 c κs = ?
+quarter-requires-2 c κs = search (needs, once-up)
 
--- src/turn.rt:52:13
 returns-3 : tie.Need-returns-3
-returns-3 c = ?
+returns-3 c = search done-2
 
--- src/turn.rt:54:9
 quarter-requires-3 : tie.Need-quarter-requires-3
-quarter-requires-3 c κs = ?
+quarter-requires-3 c κs = search (needs, once-up)
 
--- src/turn.rt:39:5
 returns-4 : tie.Need-returns-4
-returns-4 c = ?
+returns-4 c = search done-3
 
 pub quarters-spec : {M : Type 1} → statement M
 quarters-spec =

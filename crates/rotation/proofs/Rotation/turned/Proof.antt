@@ -1,26 +1,20 @@
+-- `Rotation::turned` meets its contract: quarters, and an eighth where n is odd.
+use Rattle.rotation.specs.Turned.{quarters-up-of, quarters-few, turned-even, turned-odd}
 use borrow.Author.Needs.{needs}
 use Rattle.rotation.proofs.Rotation.turned.Statement.{statement}
 use Rattle.rotation.proofs.Rotation.turned.Tie as tie
-use Rattle.rotation.proofs.Rotation.turned.Reads as reads
-use Rattle.rotation.proofs.Rotation.turned.Lts as lts
-use Rattle.rotation.proofs.Rotation.eighth.Reads as eighth-reads
-use Rattle.rotation.proofs.Rotation.quarters.Reads as quarters-reads
 
--- src/turn.rt:62:13
 quarters-requires : tie.Need-quarters-requires
 quarters-requires c κs = search needs
 
--- src/turn.rt:64:13
 returns : tie.Need-returns
-returns c = ?
+returns c = search turned-even
 
--- src/turn.rt:66:9
 eighth-requires : tie.Need-eighth-requires
-eighth-requires c κs = ?
+eighth-requires c κs = (search quarters-up-of, search quarters-few)
 
--- src/turn.rt:57:5
 returns-2 : tie.Need-returns-2
-returns-2 c = ?
+returns-2 c = search turned-odd
 
 pub turned-spec : {M : Type 1} → statement M
 turned-spec = tie.close (tie.spec quarters-requires returns eighth-requires returns-2)

@@ -1,27 +1,22 @@
+-- `columns::twice` meets its contract: each sum by the sizes that it asks for.
+use Rattle.rotation.specs.Columns.{d-fits, ca-less, b-fits, ca-more, twice-is}
 use Rattle.rotation.proofs.columns.twice.Statement.{statement}
 use Rattle.rotation.proofs.columns.twice.Tie as tie
-use Rattle.rotation.proofs.columns.twice.Reads as reads
-use Rattle.rotation.proofs.columns.twice.Lts as lts
 
--- src/columns.rt:49:24
 add-t8 : tie.Need-add-t8
-add-t8 c = ?
+add-t8 c = search d-fits
 
--- src/columns.rt:49:34
 sub-t9 : tie.Need-sub-t9
-sub-t9 c = ?
+sub-t9 c = search ca-less
 
--- src/columns.rt:50:24
 add-t8-2 : tie.Need-add-t8-2
-add-t8-2 c = ?
+add-t8-2 c = search b-fits
 
--- src/columns.rt:50:34
 add-t9 : tie.Need-add-t9
-add-t9 c = ?
+add-t9 c = search ca-more
 
--- src/columns.rt:41:1
 returns : tie.Need-returns
-returns c = ?
+returns c = search twice-is
 
 pub twice-spec : {M : Type 1} → statement M
 twice-spec = tie.close (tie.spec add-t8 sub-t9 add-t8-2 add-t9 returns)

@@ -1,11 +1,10 @@
+-- `root::common` meets its contract: the `or` of the three.
+use Rattle.rotation.specs.Shared.{or-common}
 use Rattle.rotation.proofs.root.common.Statement.{statement}
 use Rattle.rotation.proofs.root.common.Tie as tie
-use Rattle.rotation.proofs.root.common.Reads as reads
-use Rattle.rotation.proofs.root.common.Lts as lts
 
--- src/root.rt:26:1
 returns : tie.Need-returns
-returns c = ?
+returns c = search or-common
 
 pub common-spec : {M : Type 1} → statement M
 common-spec = tie.close (tie.spec returns)

@@ -1,19 +1,16 @@
+-- `root::Root::neg` meets its contract.
+use Rattle.rotation.specs.Code.{p-minus, q-minus, negated}
 use Rattle.rotation.proofs.root.Root.neg.Statement.{statement}
 use Rattle.rotation.proofs.root.Root.neg.Tie as tie
-use Rattle.rotation.proofs.root.Root.neg.Reads as reads
-use Rattle.rotation.proofs.root.Root.neg.Lts as lts
 
--- src/root.rt:50:19
 sub-t4 : tie.Need-sub-t4
-sub-t4 c = ?
+sub-t4 c = search p-minus
 
--- src/root.rt:50:26
 sub-t5 : tie.Need-sub-t5
-sub-t5 c = ?
+sub-t5 c = search q-minus
 
--- src/root.rt:44:5
 returns : tie.Need-returns
-returns c = ?
+returns c = search negated
 
 pub neg-spec : {M : Type 1} → statement M
 neg-spec = tie.close (tie.spec sub-t4 sub-t5 returns)
