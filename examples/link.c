@@ -62,6 +62,24 @@ static void steps(void)
     check("no step where it is refused", refusal == DUNROSSEL_ROOM && out[3] == 0);
 }
 
+/* What a matrix costs, without its word; and how it turns the axes: T takes X to (X + Y) over root two, Y to (Y - X) over root
+ * two, and leaves Z, which is root two over root two. */
+static void turned(void)
+{
+    const int64_t t[8] = {0, 0, 0, 1}, rows[19] = {1, 1, 0, -1, 0, 0, 0, 1, 0, 1, 0, 0, 0, 0, 0, 0, 0, 0, 1};
+    uint64_t tees;
+    int64_t out[19];
+    uint8_t refusal = dunrossel_t_count(0, 1, t, &tees);
+    printf("T count of T: refusal=%d t=%d\n", refusal, (int)tees);
+    check("T count of T", refusal == 0 && tees == 1);
+    refusal = dunrossel_rotation(0, 1, t, out);
+    printf("rotation of T: refusal=%d, over root two to the %d:\n", refusal, (int)out[0]);
+    for (int i = 1; i < 19; i += 6)
+        printf("    %d,%d %d,%d %d,%d\n", (int)out[i], (int)out[i + 1], (int)out[i + 2], (int)out[i + 3], (int)out[i + 4], (int)out[i + 5]);
+    check("rotation of T", refusal == 0 && memcmp(out, rows, sizeof rows) == 0);
+    check("no count where it is refused", dunrossel_t_count(61, 1, t, &tees) == DUNROSSEL_EXPONENT && tees == 0);
+}
+
 /* A word's matrix, and the matrix's word: the same bytes as normalising gives. */
 static void there_and_back(void)
 {
@@ -139,6 +157,7 @@ int main(void)
 {
     words();
     steps();
+    turned();
     there_and_back();
     again();
     circuits();

@@ -14,6 +14,8 @@ mod ffi {
         pub fn dunrossel_phase_free(word: *const u8, len: usize, buf: *mut u8, room: usize, out: *mut [u64; 3]) -> u8;
         pub fn dunrossel_synthesise(k: i64, n: u8, zw: *const [i64; 8], buf: *mut u8, room: usize, out: *mut [u64; 3]) -> u8;
         pub fn dunrossel_synthesise_steps(k: i64, n: u8, zw: *const [i64; 8], buf: *mut u8, room: usize, out: *mut [u64; 4]) -> u8;
+        pub fn dunrossel_t_count(k: i64, n: u8, zw: *const [i64; 8], tees: *mut u64) -> u8;
+        pub fn dunrossel_rotation(k: i64, n: u8, zw: *const [i64; 8], out: *mut [i64; 19]) -> u8;
         pub fn dunrossel_clifford_product(x: *const [i32; 4], y: *const [i32; 4], out: *mut [i32; 4]);
         pub fn dunrossel_clifford_inverse(x: *const [i32; 4], out: *mut [i32; 4]);
         pub fn dunrossel_clifford_coset(x: *const [i32; 4], out: *mut [i32; 5]);
@@ -99,6 +101,22 @@ fn synthesise_steps(m: &Triple, room: usize) -> Result<(String, u64), Refused> {
     written(number, &buf, [place, bytes, tees]).map(|word| (word, steps))
 }
 
+/// How many T the word of a matrix has, without making it.
+fn t_count(m: &Triple) -> Result<u64, Refused> {
+    let (k, n, zw) = parts(m);
+    let mut tees = 0;
+    let number = unsafe { ffi::dunrossel_t_count(k, n, &zw, &mut tees) };
+    answer(number, 0, tees)
+}
+
+/// The exponent, then the nine entries row by row, two numbers each.
+fn rotation(m: &Triple) -> Result<[i64; 19], Refused> {
+    let (k, n, zw) = parts(m);
+    let mut out = [0; 19];
+    let number = unsafe { ffi::dunrossel_rotation(k, n, &zw, &mut out) };
+    answer(number, 0, out)
+}
+
 /// The type that the three calls for circuits share.
 type Circuits = unsafe extern "C" fn(*const u8, usize, *mut u8, usize, *mut [u64; 2]) -> u8;
 
@@ -150,6 +168,17 @@ fn cliffords() {
     assert_eq!((product, identity, parted), ([2, 0, 0, 3], [0; 4], [2, 0, 0, 0, 0]));
 }
 
+/// T turns X into (X + Y) over root two, Y into (Y - X) over root two, and leaves Z, which is root two over root two.
+fn turned() {
+    let t = matrix("T").unwrap();
+    println!("T costs {:?} T; its rotation: {:?}", t_count(&t), rotation(&t));
+    assert_eq!(t_count(&t), Ok(1));
+    assert_eq!(rotation(&t), Ok([1, 1, 0, -1, 0, 0, 0, 1, 0, 1, 0, 0, 0, 0, 0, 0, 0, 0, 1]));
+    assert_eq!(t_count(&matrix("THTSHTW").unwrap()), Ok(3));
+    let too_deep = [61, 0, 0, 0, 0, 1, 0, 0, 0, 0];
+    assert_eq!((t_count(&too_deep), rotation(&too_deep)), (Err(Refused { number: 3, place: 0 }), Err(Refused { number: 3, place: 0 })));
+}
+
 fn there_and_back() {
     let text = qasm3("HTIW").unwrap();
     print!("{text}");
@@ -184,6 +213,7 @@ fn main() {
     assert_eq!(synthesise_steps(&h, 0), Err(Refused { number: 7, place: 0 }));
     assert_eq!(synthesise_steps(&matrix("HTSHX").unwrap(), ENOUGH), Ok(("HTSHX".into(), 2)));
     assert!((view(&h).unwrap()[0] - std::f64::consts::FRAC_1_SQRT_2).abs() < 1e-15);
+    turned();
     cliffords();
     there_and_back();
 

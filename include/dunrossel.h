@@ -15,13 +15,13 @@
  * A slice is a pointer and the number of bytes behind it. Nothing is read or written through the pointer of an empty slice,
  * which may be NULL.
  *
- * out and place ARE the result, beside the number that is returned: always written, whatever they held; all zeros where the
- * call is refused, but for a place, which counts bytes from 0. buf is lent memory of `room` bytes: a refusal leaves it as it
- * was, and so does an answer beyond the answer's length.
+ * out, place and tees ARE the result, beside the number that is returned: always written, whatever they held; all zeros where
+ * the call is refused, but for a place, which counts bytes from 0. buf is lent memory of `room` bytes: a refusal leaves it as
+ * it was, and so does an answer beyond the answer's length.
  *
  * Every value of the numbers and bytes is answered or refused. What no function can test is the caller's to keep: each
- * pointer leads to as many elements as its declaration or its length says, and no memory that is written (out, place, buf)
- * overlaps another argument's.
+ * pointer leads to as many elements as its declaration or its length says, and no memory that is written (out, place, tees,
+ * buf) overlaps another argument's.
  *
  * The result is 0 or the number of a refusal; of several that hold, the first in the function's own list, which is their order.
  * No call keeps memory, a pointer or a state; calls may run side by side. A later number comes through a new function: no out
@@ -99,6 +99,22 @@ uint8_t dunrossel_synthesise(int64_t k, uint8_t n, const int64_t zw[8], uint8_t 
  * out: 0, bytes written, T letters written, steps.
  * Refuses 3, 4, 5, 7. */
 uint8_t dunrossel_synthesise_steps(int64_t k, uint8_t n, const int64_t zw[8], uint8_t *buf, size_t room, uint64_t out[4]);
+
+/* The number of T letters that dunrossel_synthesise writes for a matrix, reduced or not, worked out without making the word.
+ * No word of any length with this matrix has fewer. *tees: that number. It is at most 2k, k reduced, where that k is over 0,
+ * and else at most 1; so at most 120.
+ * Refuses 3, 4, 5. */
+uint8_t dunrossel_t_count(int64_t k, uint8_t n, const int64_t zw[8], uint64_t *tees);
+
+/* The rotation of a matrix U, reduced or not: what U·P·U* is, U* being the conjugate transpose, for P each of the three axes
+ * X = [0 1; 1 0], Y = [0 -i; i 0], Z = [1 0; 0 -1]. It is three by three, rows and columns in the order X, Y, Z. Column j is
+ * what the j-th axis becomes, and row i has how much of the i-th is in it: T turns X into (X + Y) over root two, so its first
+ * column is 1, 1, 0 over root two. The rotation of a product is the product of the rotations; W changes nothing.
+ * out: e, then the nine entries row by row, each two numbers p, q, for (p + q·root two) over root two to the e. This e is the
+ * least, not below 0, with which all nine can be written so: the number that dunrossel_t_count answers. The square of p is at
+ * most 2^e, that of q at most half of it.
+ * Refuses 3, 4, 5. */
+uint8_t dunrossel_rotation(int64_t k, uint8_t n, const int64_t zw[8], int64_t out[19]);
 
 /* Cliffords (a,b,c,d) = E^a X^b S^c omega^d, any numbers taken; an answer has a in 0..2, b in 0..1, c in 0..3, d in 0..7.
  * E = H·S^3·omega^3, so H is (1,0,1,5) and S is (0,0,1,0). Nothing is refused. out: x times y. */
