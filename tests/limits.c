@@ -238,13 +238,150 @@ static void synthesis(void)
     around(m, 237, 119);
 }
 
-/* ---- jobs 1, 4 and 7 on triples that they refuse */
+/* ---- T count and rotation, beside jobs 4 and 7 */
+
+typedef struct { double re, im; } entry;
+
+/* One number times the other's conjugate. */
+static entry times(entry x, entry y)
+{
+    const entry product = {x.re * y.re + x.im * y.im, x.im * y.re - x.re * y.im};
+    return product;
+}
+
+/* The rotation of job 7's entries, row by row: U·P·U* has x + iy in its lower left and z in its upper left entry. */
+static void seen(const double view[8], double rows[9])
+{
+    const entry a = {view[0], view[1]}, b = {view[2], view[3]}, c = {view[4], view[5]}, d = {view[6], view[7]};
+    const entry ab = times(a, b), cb = times(c, b), da = times(d, a), ca = times(c, a), db = times(d, b);
+    const double found[9] = {
+        cb.re + da.re, cb.im - da.im, ca.re - db.re,
+        cb.im + da.im, da.re - cb.re, ca.im - db.im,
+        2 * ab.re, 2 * ab.im, times(a, a).re - times(b, b).re,
+    };
+    memcpy(rows, found, sizeof found);
+}
+
+/* Each entry is near that of job 7. */
+static void near_view(int64_t k, uint8_t n, const int64_t zw[8], const int64_t out[19])
+{
+    const double root = 1.4142135623730951;
+    double view[8], rows[9], power = 1;
+    check("view", dunrossel_view(k, n, zw, view) == 0);
+    seen(view, rows);
+    for (int64_t i = 0; i < out[0]; i++) power *= root;
+    for (int i = 0; i < 9; i++) {
+        double gap = ((double)out[1 + 2 * i] + (double)out[2 + 2 * i] * root) / power - rows[i];
+        check("an entry is what job 7's entries make it", gap > -1e-12 && gap < 1e-12);
+    }
+}
+
+/* Each row times each row is 1 or 0, to the last bit but modulo 2^64; and a p is odd, else root two could be taken off. */
+static void orthogonal(const int64_t out[19])
+{
+    const uint64_t one = out[0] < 64 ? (uint64_t)1 << out[0] : 0;
+    int64_t odd = 0;
+    for (int row = 1; row < 19; row += 6) {
+        for (int other = 1; other < 19; other += 6) {
+            uint64_t plain = 0, roots = 0;
+            for (int i = 0; i < 6; i += 2) {
+                uint64_t p = (uint64_t)out[row + i], q = (uint64_t)out[row + i + 1];
+                plain += p * (uint64_t)out[other + i] + 2 * q * (uint64_t)out[other + i + 1];
+                roots += p * (uint64_t)out[other + i + 1] + q * (uint64_t)out[other + i];
+            }
+            check("rows are orthogonal", plain == (row == other ? one : 0) && roots == 0);
+        }
+    }
+    for (int i = 1; i < 19; i += 2) odd |= out[i];
+    check("the exponent is the least", out[0] == 0 || odd % 2 != 0);
+}
+
+/* Both calls into memory that holds something else: job 4's refusal, its T letters, and nothing beyond the numbers. */
+static void turned(const char *what, int64_t k, uint8_t n, const int64_t zw[8], uint8_t number, uint64_t tees, int64_t out[20])
+{
+    uint64_t count[2] = {7, 7}, letters[3] = {7, 7, 7};
+    for (int i = 0; i < 20; i++) out[i] = -7;
+    uint8_t counts = dunrossel_t_count(k, n, zw, count), turns = dunrossel_rotation(k, n, zw, out);
+    printf("%s, k=%ld n=%d: refusal=%d t=%d\n", what, (long)k, n, counts, (int)count[0]);
+    check("T count", counts == number && count[0] == tees);
+    check("rotation", turns == number && out[0] == (int64_t)tees);
+    check("one number and nineteen", count[1] == 7 && out[19] == -7);
+    check("as job 4", dunrossel_synthesise(k, n, zw, lent, DUNROSSEL_ENOUGH, letters) == number && letters[2] == tees);
+    if (number) {
+        for (int i = 0; i < 19; i++) check("rotation of a refusal is 0", out[i] == 0);
+    } else {
+        near_view(k, n, zw, out);
+        orthogonal(out);
+    }
+}
+
+/* With the eight numbers doubled and k two more, as often as that goes, the answer is the same. */
+static void raised(const char *word, int64_t m[10], uint64_t tees)
+{
+    int64_t out[20], again[20];
+    turned(word, m[0], (uint8_t)m[1], m + 2, 0, tees, out);
+    while (m[0] <= 58) {
+        m[0] += 2;
+        for (int i = 2; i < 10; i++) m[i] *= 2;
+        turned(word, m[0], (uint8_t)m[1], m + 2, 0, tees, again);
+        check("the same however it is written", memcmp(out, again, sizeof out) == 0);
+    }
+}
+
+/* HT so many times behind a beginning: its k is 60, and every T counts. */
+static void deep(const char *first, size_t times, uint64_t tees)
+{
+    int64_t m[10], out[20];
+    uint64_t place;
+    size_t lead = strlen(first);
+    memcpy(many, first, lead);
+    for (size_t i = 0; i < 2 * times; i++) many[lead + i] = i % 2 ? 'T' : 'H';
+    check("k = 60", dunrossel_matrix(many, lead + 2 * times, m, &place) == 0 && m[0] == 60);
+    turned("HT over and over", m[0], (uint8_t)m[1], m + 2, 0, tees, out);
+}
+
+static const struct { const char *word; uint64_t tees; } costs[] = {
+    {"", 0}, {"X", 0}, {"SHXSSSWW", 0}, {"T", 1}, {"HTSH", 1}, {"THTW", 2}, {"TT", 0}, {"THHT", 0}, {"HTXHT", 2}, {"SHTHTSHTXSWWW", 3},
+};
+
+/* By hand: T, its inverse as n = 255 gives it, H, which turns X to Z, Y to -Y and Z to X, and S, which turns X to Y. */
+static void rotations(void)
+{
+    const int64_t one[8] = {0, 0, 0, 1}, h[8] = {0, 0, 0, 1, 0, 0, 0, 1}, top[8] = {0, 0, 0, 1 << 30};
+    const int64_t t[19] = {1, 1, 0, -1, 0, 0, 0, 1, 0, 1, 0, 0, 0, 0, 0, 0, 0, 0, 1};
+    const int64_t back[19] = {1, 1, 0, 1, 0, 0, 0, -1, 0, 1, 0, 0, 0, 0, 0, 0, 0, 0, 1};
+    const int64_t of_h[19] = {0, 0, 0, 0, 0, 1, 0, 0, 0, -1, 0, 0, 0, 1, 0, 0, 0, 0, 0};
+    const int64_t of_s[19] = {0, 0, 0, -1, 0, 0, 0, 1, 0, 0, 0, 0, 0, 0, 0, 0, 0, 1, 0};
+    int64_t out[20], m[10];
+    uint64_t place;
+    printf("T count and rotation\n");
+    for (int n = 0; n < 256; n++) turned("k = 0", 0, (uint8_t)n, one, 0, (uint64_t)(n % 2), out);
+    check("T by n = 255 backwards", memcmp(out, back, sizeof back) == 0);
+    turned("2^30", 60, 255, top, 0, 1, out);
+    check("the same of 2^30", memcmp(out, back, sizeof back) == 0);
+    turned("T", 0, 1, one, 0, 1, out);
+    check("rotation of T", memcmp(out, t, sizeof t) == 0);
+    turned("H", 1, 4, h, 0, 0, out);
+    check("rotation of H", memcmp(out, of_h, sizeof of_h) == 0);
+    turned("S", 0, 2, one, 0, 0, out);
+    check("rotation of S", memcmp(out, of_s, sizeof of_s) == 0);
+    for (size_t i = 0; i < sizeof costs / sizeof *costs; i++) {
+        check("a word", dunrossel_matrix((const uint8_t *)costs[i].word, strlen(costs[i].word), m, &place) == 0);
+        raised(costs[i].word, m, costs[i].tees);
+    }
+    deep("", 118, 118);
+    deep("", 119, 119);
+    deep("T", 119, 120);
+}
+
+/* ---- triples that are refused, by every call that takes one */
 
 static void triple(const char *what, int64_t k, const int64_t zw[8], uint8_t number)
 {
     int64_t ten[10];
     double view[8];
     uint64_t out[3] = {7, 7, 7}, four[4] = {7, 7, 7, 7};
+    int64_t turn[20];
     memset(ten, 1, sizeof ten);
     memset(view, 1, sizeof view);
     lend();
@@ -258,6 +395,7 @@ static void triple(const char *what, int64_t k, const int64_t zw[8], uint8_t num
     for (int i = 0; i < 8; i++) check("view of a refusal is 0", view[i] == 0);
     check("counts of a refusal are 0", out[0] == 0 && out[1] == 0 && out[2] == 0);
     for (int i = 0; i < 4; i++) check("counts and steps of a refusal are 0", four[i] == 0);
+    turned("T count and rotation", k, 0, zw, number, 0, turn);
     untouched_from(0);
 }
 
@@ -512,6 +650,7 @@ int main(void)
     longest(dunrossel_phase_free, "XT", DUNROSSEL_PHASE_FREE);
     matrices();
     synthesis();
+    rotations();
     triples();
     records();
     circuits();
