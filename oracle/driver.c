@@ -20,6 +20,8 @@ u8 dunrossel_qasm2_write(const u8 *word, u64 len, u8 *buf, u64 room, u64 *out);
 u8 dunrossel_qasm3_write(const u8 *word, u64 len, u8 *buf, u64 room, u64 *out);
 u8 dunrossel_qasm_read(const u8 *text, u64 len, u8 *buf, u64 room, u64 *out);
 u8 dunrossel_synthesise_steps(i64 k, u8 n, const i64 *zw, u8 *buf, u64 room, u64 *out);
+u8 dunrossel_t_count(i64 k, u8 n, const i64 *zw, u64 *tees);
+u8 dunrossel_rotation(i64 k, u8 n, const i64 *zw, i64 *out);
 
 static i64 sys(i64 n, i64 a, i64 b, i64 c, i64 d, i64 e) {
   register i64 r10 __asm__("r10") = d;
@@ -78,6 +80,8 @@ static u64 call(u64 job, const u64 *a) {
   case 11: return dunrossel_qasm3_write((u8 *)a[0], a[1], (u8 *)a[2], a[3], (u64 *)a[4]);
   case 12: return dunrossel_qasm_read((u8 *)a[0], a[1], (u8 *)a[2], a[3], (u64 *)a[4]);
   case 13: return dunrossel_synthesise_steps((i64)a[0], (u8)a[1], (i64 *)a[2], (u8 *)a[3], a[4], (u64 *)a[5]);
+  case 14: return dunrossel_t_count((i64)a[0], (u8)a[1], (i64 *)a[2], (u64 *)a[3]);
+  case 15: return dunrossel_rotation((i64)a[0], (u8)a[1], (i64 *)a[2], (i64 *)a[3]);
   }
   end(3);
 }
@@ -128,6 +132,7 @@ static void print(const char *name, u64 n) {
 enum { CIRCUIT = 64 + 8 * 4096 }; // a head, and 4,096 lines of eight bytes
 static u8 word[4096], text[12320], circuit[CIRCUIT];
 static i64 numbers[10];
+static i64 turned[19];
 static u64 out[10];
 static void stacks(void) {
   static const char head[] = "| Export | stack taken, bytes |\n|---|---|\n";
@@ -150,6 +155,8 @@ static void stacks(void) {
   const u64 many[] = {(u64)numbers[0], (u64)numbers[1], m + 16, t, 376, o};
   print("dunrossel_synthesise", taken(4, many));
   print("dunrossel_synthesise_steps", taken(13, many));
+  print("dunrossel_t_count", taken(14, (u64[]){many[0], many[1], many[2], o}));
+  print("dunrossel_rotation", taken(15, (u64[]){many[0], many[1], many[2], (u64)turned}));
   print("dunrossel_clifford_product", taken(5, (u64[]){c, c, m}));
   print("dunrossel_clifford_inverse", taken(6, (u64[]){c, m}));
   print("dunrossel_clifford_coset", taken(7, (u64[]){c, m}));

@@ -4,6 +4,7 @@
 use crate::exact::Matrix;
 use crate::inputs::{Triple, ENOUGH};
 use crate::library::{Library, Word, IN, LENT, OUT, PLACE};
+use crate::rotation_faults;
 use std::cell::RefCell;
 
 const GUARD: usize = 32;
@@ -15,7 +16,7 @@ fn pattern(i: usize) -> u8 {
 
 /// What stands in an out array before a call, and behind it after.
 const STALE: u8 = 0xa5;
-const OUT_BYTES: usize = 128;
+const OUT_BYTES: usize = 192;
 
 /// Where a wrong answer is planted: at the call of this job with this number, in this part of the answer.
 #[derive(Clone, Copy, PartialEq, Debug)]
@@ -41,9 +42,11 @@ pub enum Job {
     Qasm3Write,
     QasmRead,
     SynthesiseSteps,
+    TCount,
+    Rotation,
 }
 
-pub const JOBS: [Job; 14] = [
+pub const JOBS: [Job; 16] = [
     Job::Reduce,
     Job::Matrix,
     Job::Normalise,
@@ -58,6 +61,8 @@ pub const JOBS: [Job; 14] = [
     Job::Qasm3Write,
     Job::QasmRead,
     Job::SynthesiseSteps,
+    Job::TCount,
+    Job::Rotation,
 ];
 
 impl Job {
@@ -66,6 +71,8 @@ impl Job {
         match self {
             Job::PhaseFree => &[Fault::Nothing, Fault::Identity, Fault::Phase, Fault::Room, Fault::Stale],
             Job::SynthesiseSteps => &[Fault::Unreduced, Fault::More, Fault::Tees, Fault::Kept, Fault::Stale],
+            Job::TCount => rotation_faults::OF_COUNTS,
+            Job::Rotation => &rotation_faults::OF_ROTATIONS,
             _ => &[],
         }
     }
@@ -83,7 +90,7 @@ pub enum Part {
     Whole(Fault),
 }
 
-/// What a faulty job 5 would answer, or a faulty count of job 4's steps.
+/// What a faulty job 5 would answer, a faulty count of job 4's steps, a faulty T count or rotation.
 #[derive(Clone, Copy, PartialEq, Eq, Debug)]
 pub enum Fault {
     /// Job 5: an empty tail written as nothing.
@@ -96,13 +103,27 @@ pub enum Fault {
     Room,
     /// Job 4: a step more for each exponent that is lowered before the first.
     Unreduced,
-    /// Job 4: a step too many.
+    /// Job 4: a step too many. A T too many; a rotation over a power of root two one higher than the least.
     More,
     /// Job 4: the T letters for steps.
     Tees,
-    /// Job 4: steps in a refusal for want of room.
+    /// Job 4: steps in a refusal for want of room. T count and rotation: in a refusal the numbers of the accepted call before.
     Kept,
-    /// The word, or the steps, of the accepted call before.
+    /// T count and rotation, from here to Mirror: nothing written in a refusal.
+    Unwritten,
+    /// The exponent of the reduced triple for the rotation's.
+    Exponent,
+    /// Twice that; a rotation is then over this power of root two.
+    Twice,
+    /// The least exponent of what Z becomes alone; what the other axes become is cut off.
+    OneAxis,
+    /// n taken for 0.
+    Unturned,
+    /// The rotation's rows for its columns.
+    Transpose,
+    /// -Y for Y.
+    Mirror,
+    /// The word, the steps, or the numbers, of the accepted call before.
     Stale,
 }
 
@@ -115,6 +136,13 @@ struct State {
     planted_on: Option<Vec<u8>>,
     calls: u64,
     before: Option<Written>,
+    numbers_before: Option<Vec<i64>>,
+}
+
+/// A whole answer to be planted; of the numbers the refusal is the right one.
+enum Wrong {
+    Written(Written),
+    Numbers(Vec<i64>),
 }
 
 thread_local! {
@@ -127,6 +155,7 @@ thread_local! {
         planted_on: None,
         calls: 0,
         before: None,
+        numbers_before: None,
     });
 }
 
@@ -136,6 +165,7 @@ pub fn set_plant(plant: Option<Plant>) {
         s.planted_on = None;
         s.calls = 0;
         s.before = None;
+        s.numbers_before = None;
     })
 }
 
@@ -150,27 +180,32 @@ impl State {
     fn turn(&mut self, job: Job, args: &[Word], many: usize) -> Option<Part> {
         let plant = self.plant.filter(|p| p.job == job)?;
         let wrong = match plant.part {
-            Part::Whole(fault) => Some(self.faulty(fault, job, args)?),
+            Part::Whole(fault) => Some(self.faulty(fault, job, args, many)?),
             _ => None,
         };
         self.calls += 1;
         if self.calls != plant.call {
             return None;
         }
-        if let Some(answer) = wrong {
-            self.hand(&answer, many);
+        match wrong {
+            Some(Wrong::Written(answer)) => self.hand(&answer, many),
+            Some(Wrong::Numbers(numbers)) => self.put(&numbers),
+            None => {}
         }
         Some(plant.part)
     }
 
     /// What a faulty job would hand back, where that is no right answer.
-    fn faulty(&mut self, fault: Fault, job: Job, args: &[Word]) -> Option<Written> {
+    fn faulty(&mut self, fault: Fault, job: Job, args: &[Word], many: usize) -> Option<Wrong> {
+        if let Job::TCount | Job::Rotation = job {
+            return self.faulty_numbers(fault, args, many).map(Wrong::Numbers);
+        }
         let right = self.answer(job);
         let wrong = match job {
             Job::PhaseFree => Written::of(&self.faulty_word(fault, &right, args)?),
             _ => Written { steps: self.faulty_steps(fault, &right, args)?, ..right.clone() },
         };
-        (wrong.word.len() <= self.lent && wrong != right).then_some(wrong)
+        (wrong.word.len() <= self.lent && wrong != right).then_some(Wrong::Written(wrong))
     }
 
     fn faulty_word(&mut self, fault: Fault, right: &Written, args: &[Word]) -> Option<Vec<u8>> {
@@ -202,11 +237,38 @@ impl State {
         }
     }
 
+    /// The numbers that a faulty T count or rotation answers, where they are not the right ones.
+    fn faulty_numbers(&mut self, fault: Fault, args: &[Word], many: usize) -> Option<Vec<i64>> {
+        let accepted = self.result == 0;
+        let right = self.longs(OUT, many);
+        let before = self.numbers_before.clone();
+        if accepted {
+            self.numbers_before = Some(right.clone());
+        }
+        let wrong = match fault {
+            Fault::Stale if accepted => before?,
+            Fault::Kept if !accepted => before?,
+            Fault::Unwritten if !accepted => vec![i64::from_ne_bytes([STALE; 8]); many],
+            _ if accepted => rotation_faults::of(fault, &self.taken(args))?.numbers()[..many].to_vec(),
+            _ => return None,
+        };
+        (wrong != right).then_some(wrong)
+    }
+
+    fn longs(&mut self, at: usize, many: usize) -> Vec<i64> {
+        self.library.memory()[at..at + 8 * many].chunks(8).map(i64::read).collect()
+    }
+
+    /// The triple that was handed in.
+    fn taken(&mut self, args: &[Word]) -> Triple {
+        let [Word::Number(k), Word::Number(n)] = args[..2] else { unreachable!() };
+        (k as i64, n as u8, self.longs(IN, 8).try_into().unwrap())
+    }
+
     /// How far the exponent of the triple that was handed in is above the least.
     fn lowered(&mut self, args: &[Word]) -> u64 {
-        let Word::Number(k) = args[0] else { unreachable!() };
-        let zw: Vec<i64> = self.library.memory()[IN..IN + 64].chunks(8).map(i64::read).collect();
-        k - Matrix::triple(k as i64, 0, &zw).reduced().k as u64
+        let (k, n, zw) = self.taken(args);
+        (k - Matrix::triple(k, n, &zw).reduced().k) as u64
     }
 
     /// What the job hands back with this room, which its last argument but one says; its refusal without is then as it was.
@@ -224,10 +286,15 @@ impl State {
     fn hand(&mut self, answer: &Written, many: usize) {
         self.lend(self.lent, self.length);
         self.result = answer.refusal as u64;
-        let numbers: [u8; 32] = bytes(&answer.numbers(), u64::to_ne_bytes);
+        self.put(&answer.numbers().map(|x| x as i64)[..many]);
         let memory = self.library.memory();
         memory[LENT + GUARD..LENT + GUARD + answer.word.len()].copy_from_slice(&answer.word);
-        memory[OUT..OUT + 8 * many].copy_from_slice(&numbers[..8 * many]);
+    }
+
+    /// Puts numbers into the out array.
+    fn put(&mut self, numbers: &[i64]) {
+        let all: Vec<u8> = numbers.iter().flat_map(|x| x.to_ne_bytes()).collect();
+        self.library.memory()[OUT..OUT + all.len()].copy_from_slice(&all);
     }
 
     /// What a job that writes a word has answered.
@@ -355,6 +422,16 @@ pub fn matrix(word: &[u8]) -> Option<(u8, [i64; 10], u64)> {
 pub fn view(k: i64, n: u8, zw: &[i64; 8]) -> Option<(u8, [f64; 8])> {
     let (input, args) = triple(k, n, zw);
     STATE.with_borrow_mut(|s| s.numbers(Job::View, &input, &args))
+}
+
+pub fn t_count((k, n, zw): &Triple) -> Option<(u8, [u64; 1])> {
+    let (input, args) = triple(*k, *n, zw);
+    STATE.with_borrow_mut(|s| s.numbers(Job::TCount, &input, &args))
+}
+
+pub fn rotation((k, n, zw): &Triple) -> Option<(u8, [i64; 19])> {
+    let (input, args) = triple(*k, *n, zw);
+    STATE.with_borrow_mut(|s| s.numbers(Job::Rotation, &input, &args))
 }
 
 fn clifford<const N: usize>(job: Job, x: &[i32; 4], y: &[i32; 4], args: &[Word]) -> Option<[i32; N]> {

@@ -19,10 +19,15 @@ mod plants;
 mod qasm;
 mod records;
 mod report;
+mod rotation;
+mod rotation_faults;
+mod rotation_runs;
+mod rotations;
 mod runs;
 mod rust;
 mod sample;
 mod sample_circuits;
+mod sample_rotations;
 mod triples;
 mod view;
 mod words;
@@ -58,6 +63,12 @@ fn every_run(report: &mut Report) {
     timed(report, "triples at the edges", runs::triple_edges);
     timed(report, "triples of up to 4 T", |r| runs::few_t(r, 4));
     timed(report, "random triples to exponent 60", |r| runs::deep(r, 60));
+    timed(report, "rotations, said number for number", rotation_runs::named);
+    timed(report, "rotations of every tail behind up to 4 T", |r| rotation_runs::every_tail(r, 4));
+    timed(report, "rotations of random triples to exponent 60", |r| rotation_runs::deep(r, 10));
+    timed(report, "rotations of products", |r| rotation_runs::products(r, 3000));
+    timed(report, "rotations with n from 0 to 255", rotation_runs::every_n);
+    timed(report, "rotations refused", rotation_runs::refused);
     timed(report, "Cliffords", |r| runs::all_cliffords(r, 16));
     timed(report, "bench records", |r| runs::bench_records(r, 3000));
     timed(report, "OpenQASM, every circuit of up to 4 statements", circuit_runs::every_circuit);
@@ -107,8 +118,9 @@ fn main() -> ExitCode {
 fn usage() -> ExitCode {
     eprintln!("compare [--plant JOB:CALL:PART | --sample DIR]");
     eprintln!("JOB: reduce matrix normalise phasefree synthesise product inverse coset view bench");
-    eprintln!("     qasm2write qasm3write qasmread synthesisesteps");
+    eprintln!("     qasm2write qasm3write qasmread synthesisesteps tcount rotation");
     eprintln!("PART: refusal, number, byte, beyond, after; of phasefree also nothing, identity, phase, room, stale,");
-    eprintln!("     of synthesisesteps unreduced, more, tees, kept, stale");
+    eprintln!("     of synthesisesteps unreduced, more, tees, kept, stale, of tcount and rotation exponent, twice,");
+    eprintln!("     more, oneaxis, unturned, kept, unwritten, stale, of rotation transpose, mirror");
     ExitCode::from(2)
 }

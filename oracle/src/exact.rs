@@ -20,11 +20,11 @@ impl Number {
         Number::of(&[0; 4])
     }
 
-    fn add(&self, r: &Number) -> Number {
+    pub fn add(&self, r: &Number) -> Number {
         Number([0, 1, 2, 3].map(|i| &self.0[i] + &r.0[i]))
     }
 
-    fn neg(&self) -> Number {
+    pub fn neg(&self) -> Number {
         Number([0, 1, 2, 3].map(|i| -&self.0[i]))
     }
 
@@ -37,7 +37,7 @@ impl Number {
         v
     }
 
-    fn conjugate(&self) -> Number {
+    pub fn conjugate(&self) -> Number {
         let [a, b, c, d] = &self.0;
         Number([-c, -b, -a, d.clone()])
     }
@@ -52,7 +52,7 @@ impl Number {
         Number([(b - d) >> 1, (c + a) >> 1, (b + d) >> 1, (c - a) >> 1])
     }
 
-    fn times(&self, r: &Number) -> Number {
+    pub fn times(&self, r: &Number) -> Number {
         let mut sum = Number::zero();
         for (i, x) in self.0.iter().enumerate() {
             let part = Number([0, 1, 2, 3].map(|j| x * &r.0[j]));
@@ -154,6 +154,11 @@ impl Matrix {
         Matrix { e: [at(0, 0), at(0, 1), at(1, 0), at(1, 1)], k: self.k + r.k }.reduced()
     }
 
+    /// The rows as columns, each entry conjugate.
+    pub fn adjoint(&self) -> Matrix {
+        Matrix { e: [0, 2, 1, 3].map(|i| self.e[i].conjugate()), k: self.k }
+    }
+
     /// E^a X^b S^c omega^d, with E = H·S^3·omega^3.
     pub fn clifford(x: &[u8; 4]) -> Matrix {
         let word = b"HSSSWWW".repeat(x[0] as usize);
@@ -194,10 +199,15 @@ pub fn is_normal(word: &[u8]) -> bool {
 
 /// Unitary by docs/SCOPE.md, Triples, for coefficients of at most 2^30.
 pub fn is_unitary(k: i64, zw: &[i64; 8]) -> bool {
-    let squares: i128 = zw.iter().map(|x| *x as i128 * *x as i128).sum();
+    sums(zw) == [1 << k, 0]
+}
+
+/// The sum of the squares, and the cross sum.
+pub fn sums(zw: &[i64; 8]) -> [i128; 2] {
+    let squares = zw.iter().map(|x| *x as i128 * *x as i128).sum();
     let cross = |v: &[i64]| {
         let [a, b, c, d] = [0, 1, 2, 3].map(|i| v[i] as i128);
         a * b + b * c + c * d - d * a
     };
-    squares == 1i128 << k && cross(&zw[..4]) + cross(&zw[4..]) == 0
+    [squares, cross(&zw[..4]) + cross(&zw[4..])]
 }

@@ -67,6 +67,8 @@ exports! {
     pub fn dunrossel_qasm3_write(word: *const u8, len: usize, buf: *mut u8, room: usize, out: *mut u64) -> u8;
     pub fn dunrossel_qasm_read(text: *const u8, len: usize, buf: *mut u8, room: usize, out: *mut u64) -> u8;
     pub fn dunrossel_synthesise_steps(k: i64, n: u8, zw: *const i64, buf: *mut u8, room: usize, out: *mut u64) -> u8;
+    pub fn dunrossel_t_count(k: i64, n: u8, zw: *const i64, tees: *mut u64) -> u8;
+    pub fn dunrossel_rotation(k: i64, n: u8, zw: *const i64, out: *mut i64) -> u8;
 }
 
 #[cfg(linked)]
@@ -125,6 +127,8 @@ impl Library {
                 Job::SynthesiseSteps => {
                     c::dunrossel_synthesise_steps(n(0) as i64, n(1) as u8, p!(2), p!(3), size(4), p!(5)) as u64
                 }
+                Job::TCount => c::dunrossel_t_count(n(0) as i64, n(1) as u8, p!(2), p!(3)) as u64,
+                Job::Rotation => c::dunrossel_rotation(n(0) as i64, n(1) as u8, p!(2), p!(3)) as u64,
             }
         }
     }

@@ -16,13 +16,6 @@ const BACK: &str = "job 5's word is given back as it is by jobs 3 and 5";
 /// What job 5's answers are held to besides the model. Each must find some planted answer (`plants`).
 pub const CHECKS: [&str; 6] = [NORMAL, TEES, LENGTH, SAME, OTHER, BACK];
 
-fn holds(report: &mut Report, check: &'static str, holds: bool, what: impl FnOnce() -> String) {
-    report.note(check, 1);
-    if !holds {
-        report.differs(check, what());
-    }
-}
-
 /// A word, its matrix by exact arithmetic, and what jobs 3 and 5 hand back for it, as it came.
 struct Known {
     word: Vec<u8>,
@@ -45,9 +38,9 @@ impl Known {
 
     fn alone(&self, report: &mut Report) {
         let (free, whole) = (&self.free, &self.whole);
-        holds(report, NORMAL, is_normal(free) && !free.contains(&b'W'), || self.name());
-        holds(report, TEES, abi::tees(free) == abi::tees(whole), || self.name());
-        holds(report, LENGTH, free.len() <= whole.len(), || self.name());
+        report.holds(NORMAL, is_normal(free) && !free.contains(&b'W'), || self.name());
+        report.holds(TEES, abi::tees(free) == abi::tees(whole), || self.name());
+        report.holds(LENGTH, free.len() <= whole.len(), || self.name());
     }
 
     fn name(&self) -> String {
@@ -66,13 +59,13 @@ impl Known {
         let phase = self.matrix.phase_to(&other.matrix);
         let check = if phase.is_some() { SAME } else { OTHER };
         let right = (self.free == other.free) == phase.is_some();
-        holds(report, check, right, || format!("{} and {}", self.name(), other.name()));
+        report.holds(check, right, || format!("{} and {}", self.name(), other.name()));
         phase
     }
 
     fn fed_back(&self, report: &mut Report) {
         let again = Known::new(report, self.free.clone());
-        holds(report, BACK, again.whole == self.free && again.free == self.free, || again.name());
+        report.holds(BACK, again.whole == self.free && again.free == self.free, || again.name());
     }
 }
 

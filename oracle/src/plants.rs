@@ -1,12 +1,12 @@
-//! Wrong answers planted one at a time, in every part of every job's answer, and those of a faulty job 5 and of faulty
-//! steps of job 4: each must be found.
+//! Wrong answers planted one at a time, in every part of every job's answer, and those of a faulty job 5, of faulty steps
+//! of job 4, of faulty T counts and of faulty rotations: each must be found.
 
 use crate::abi::{planted_on, set_plant, Fault, Job, Part, Plant, JOBS};
 use crate::circuit_runs;
 use crate::inputs::cliffords;
 use crate::records::record;
 use crate::report::Report;
-use crate::{phase_runs, runs};
+use crate::{phase_runs, rotation_runs, runs};
 use std::collections::BTreeSet;
 
 /// From JOB:CALL:PART.
@@ -34,6 +34,8 @@ fn parts(job: Job) -> Vec<Part> {
         Job::Product | Job::Inverse => (false, 4, false),
         Job::Coset => (false, 5, false),
         Job::View => (true, 8, false),
+        Job::TCount => (true, 1, false),
+        Job::Rotation => (true, 19, false),
         Job::Bench => (false, 1, true),
         Job::Qasm2Write | Job::Qasm3Write | Job::QasmRead => (true, 2, true),
     };
@@ -78,6 +80,8 @@ struct Faulty {
 const PHASES: Faulty = Faulty { job: Job::PhaseFree, few: phase_runs::few, kinds: "job 5 phase-free", one_in: 5 };
 const STEPS: Faulty =
     Faulty { job: Job::SynthesiseSteps, few: runs::few_triples, kinds: "job 4 with steps", one_in: 1 };
+const COUNTS: Faulty = Faulty { job: Job::TCount, few: rotation_runs::few, kinds: "T count:", one_in: 1 };
+const ROTATIONS: Faulty = Faulty { job: Job::Rotation, few: rotation_runs::few, kinds: "rotation:", one_in: 1 };
 
 impl Faulty {
     /// One fault until there is no call left that it changes: how many were planted, and found by the model. `checks`
@@ -112,11 +116,17 @@ impl Faulty {
 fn faults() -> bool {
     let mut checks = BTreeSet::new();
     let (phases, counts) = PHASES.faults(&mut checks);
-    let idle = phase_runs::CHECKS.iter().filter(|check| !checks.contains(**check)).count();
-    println!("planted as a faulty job 5 answers: {counts}; checks besides that found none: {idle}");
+    println!("planted as a faulty job 5 answers: {counts}");
     let (steps, counts) = STEPS.faults(&mut checks);
     println!("planted as faulty steps of job 4: {counts}");
-    phases && steps && idle == 0
+    let (tees, counts) = COUNTS.faults(&mut checks);
+    println!("planted as faulty T counts: {counts}");
+    let (rotations, counts) = ROTATIONS.faults(&mut checks);
+    println!("planted as faulty rotations: {counts}");
+    let all = phase_runs::CHECKS.iter().chain(&rotation_runs::CHECKS);
+    let idle: Vec<_> = all.filter(|check| !checks.contains(**check)).collect();
+    println!("checks besides that found none of these: {} {idle:?}", idle.len());
+    phases && steps && tees && rotations && idle.is_empty()
 }
 
 pub fn all() -> bool {

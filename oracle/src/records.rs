@@ -3,7 +3,7 @@
 use crate::abi::{self, Written};
 use crate::inputs::Triple;
 use crate::report::Report;
-use crate::triples::{reduced, synthesised};
+use crate::triples;
 
 pub fn record((k, n, zw): &Triple) -> String {
     let list = |v: &[i64]| v.iter().map(i64::to_string).collect::<Vec<_>>().join(",");
@@ -35,11 +35,7 @@ pub fn parsed(record: &[u8]) -> Option<Triple> {
 }
 
 pub fn answer(report: &mut Report, record: &[u8]) -> (u8, Vec<u8>) {
-    let numbers = parsed(record).ok_or(8).and_then(|triple| reduced(report, &triple));
-    let answer = match numbers {
-        Ok(numbers) => synthesised(report, &numbers),
-        Err(number) => Written::refused(number, 0),
-    };
+    let answer = parsed(record).map_or(Written::refused(8, 0), |triple| triples::answer(report, &triple));
     let (number, word, [_, size, t, steps]) = (answer.refusal, answer.word.escape_ascii(), answer.numbers());
     (number, format!("refusal={number}\nword={word}\nt={t}\nbytes={size}\nsteps={steps}\n").into_bytes())
 }

@@ -44,6 +44,14 @@ impl Report {
         self.firsts.entry(kind).or_insert_with(input);
     }
 
+    /// What answers are held to besides the cases, and how often; text says what does not.
+    pub fn holds(&mut self, check: &'static str, holds: bool, text: impl FnOnce() -> String) {
+        self.note(check, 1);
+        if !holds {
+            self.differs(check, text());
+        }
+    }
+
     /// What is counted besides the cases.
     pub fn note(&mut self, what: &'static str, n: u64) {
         *self.notes.entry(what).or_default() += n;

@@ -148,7 +148,7 @@ pub fn around_deep(report: &mut Report, each: usize) {
 }
 
 /// Letters whose product undoes the letter.
-fn undone(letter: &u8) -> &'static [u8] {
+pub fn undone(letter: &u8) -> &'static [u8] {
     match letter {
         b'T' => b"TSSS",
         b'S' => b"SSS",

@@ -6,7 +6,7 @@ use crate::inputs::{self, cliffords, normal_word, raised, Random, Triple, LETTER
 use crate::report::Report;
 use crate::runs::triple_of;
 use crate::words::{self, phase_free};
-use crate::{cliffords as job_6, records, rust, sample_circuits, triples};
+use crate::{cliffords as job_6, records, rotations, rust, sample_circuits, sample_rotations, triples};
 use std::process::ExitCode;
 
 #[derive(Default)]
@@ -94,6 +94,16 @@ impl Sample {
                 let answer = triples::synthesised(&mut self.report, &numbers);
                 self.fitted('4', &record, answer, more);
             }
+        }
+    }
+
+    /// The T count and the rotation.
+    pub fn rotation(&mut self, triple: &Triple) {
+        let record = records::record(triple).into_bytes();
+        let answer = triples::answer(&mut self.report, triple);
+        let numbers = rotations::numbers(&mut self.report, triple, &answer);
+        for (job, many) in [('T', 1), ('A', 19)] {
+            self.add(job, 0, &record, format!("{} {}", answer.refusal, joined(&numbers[..many])).as_bytes());
         }
     }
 
@@ -301,6 +311,7 @@ pub fn write(folder: &str) -> ExitCode {
     all_triples(&mut s);
     all_cliffords(&mut s);
     sample_circuits::all(&mut s);
+    sample_rotations::all(&mut s);
     if s.report.unexplained > 0 {
         return ExitCode::FAILURE;
     }

@@ -1,13 +1,13 @@
-//! Jobs 1, 4 and 7 on one triple.
+//! Jobs 1 and 4 on one triple, and beside them the others that take one.
 
 use crate::abi::{self, Written};
 use crate::exact::{is_normal, is_unitary, Matrix};
 use crate::inputs::{Triple, ENOUGH};
 use crate::report::Report;
 use crate::words::{Rooms, DEEPEST};
-use crate::{rust, view};
+use crate::{rotations, rust, view};
 
-const LARGEST: i64 = 1 << 30;
+pub const LARGEST: i64 = 1 << 30;
 
 /// Refusals 3, 4 and 5, in that order.
 pub fn refusal(k: i64, zw: &[i64; 8]) -> Option<u8> {
@@ -111,6 +111,14 @@ pub fn synthesised(report: &mut Report, numbers: &[i64; 10]) -> Written {
     Written { steps: steps(report, &exact, &letters), ..Written::of(&word) }
 }
 
+/// Job 4's answer given room enough, or its refusal.
+pub fn answer(report: &mut Report, triple: &Triple) -> Written {
+    match reduced(report, triple) {
+        Ok(numbers) => synthesised(report, &numbers),
+        Err(number) => Written::refused(number, 0),
+    }
+}
+
 /// The steps of a reduced triple: by exact arithmetic, by the Rust's step, which writes an H each time, and by k and z·z* alone.
 fn steps(report: &mut Report, exact: &Matrix, letters: &[u8]) -> u64 {
     let steps = exact.steps();
@@ -136,7 +144,8 @@ fn over(len: usize, k: i64) -> u64 {
     (len as i64 - 6 * k).max(0) as u64
 }
 
-fn synthesise(report: &mut Report, triple: &Triple, reduced: &Result<[i64; 10], u8>, which: Rooms) {
+/// Job 4, which is compared in rooms as asked. Its answer given room enough, or its refusal.
+pub fn synthesise(report: &mut Report, triple: &Triple, reduced: &Result<[i64; 10], u8>, which: Rooms) -> Written {
     let (k, n, zw) = triple;
     let numbers = match reduced {
         Ok(numbers) => numbers,
@@ -144,7 +153,9 @@ fn synthesise(report: &mut Report, triple: &Triple, reduced: &Result<[i64; 10], 
             let kind = refused_4_kind(*number, triple);
             report.first(kind, || format!("k = {k}, n = {n}, {zw:?}"));
             let room = if which == Rooms::All { 0 } else { ENOUGH };
-            return both_exports(report, triple, room, kind, &Written::refused(*number, 0));
+            let refused = Written::refused(*number, 0);
+            both_exports(report, triple, room, kind, &refused);
+            return refused;
         }
     };
     let answer = synthesised(report, numbers);
@@ -165,6 +176,7 @@ fn synthesise(report: &mut Report, triple: &Triple, reduced: &Result<[i64; 10], 
         let kind = if expected.refusal == 7 { "job 4 synthesise: refused 7 Room" } else { kind };
         both_exports(report, triple, room, kind, &expected);
     }
+    answer
 }
 
 /// Job 4 by its two exports, the second of which also answers the steps.
@@ -197,17 +209,16 @@ fn unreduced_kind(report: &mut Report, (k, n, zw): &Triple, word: &[u8]) -> &'st
     }
 }
 
-/// Jobs 1, 4 and 7.
+/// All that take a triple.
 pub fn all(report: &mut Report, triple: &Triple, which: Rooms) {
-    let expected = reduced(report, triple);
-    reduce(report, triple, &expected);
-    synthesise(report, triple, &expected, which);
-    view::view(report, triple, expected.is_err());
+    exact(report, triple, which);
+    view::view(report, triple, refusal(triple.0, &triple.2).is_some());
 }
 
-/// Jobs 1 and 4, without the numeric view.
+/// The same without job 7, the numeric view.
 pub fn exact(report: &mut Report, triple: &Triple, which: Rooms) {
     let expected = reduced(report, triple);
     reduce(report, triple, &expected);
-    synthesise(report, triple, &expected, which);
+    let answer = synthesise(report, triple, &expected, which);
+    rotations::both(report, triple, &answer);
 }
