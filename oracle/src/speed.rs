@@ -1,7 +1,7 @@
 //! Times the library and the published Rust on the same inputs in one process, and prints tables for docs/SPEED.md.
 //! A round times both, one after the other; the ratio is taken round by round. A word that takes the Rust's SHT arm
 //! is timed as any other. OpenQASM, which the Rust has not, is timed against plain.rs. Where an earlier archive is linked
-//! too (`bench-speed` with BEFORE), jobs 4 and 6 are timed in both.
+//! too (`bench-speed` with BEFORE), jobs 4 and 6 are timed in both. T count and rotation are timed against job 4.
 
 #[allow(dead_code)]
 mod abi;
@@ -13,9 +13,13 @@ mod inputs;
 mod library;
 mod plain;
 #[allow(dead_code)]
+mod rotation;
+mod rotation_faults;
+#[allow(dead_code)]
 mod rust;
 mod speed_circuits;
 mod speed_cliffords;
+mod speed_rotations;
 
 use inputs::{Random, Triple, LETTERS, PLAIN};
 use library::c;
@@ -338,6 +342,7 @@ fn main() {
         alone(format!("numeric view, k = {k}"), &triples(&mut random, k, 100), 50, view);
     }
     steps_table(&mut random, &lent);
+    speed_rotations::table(&mut random, &lent);
     speed_cliffords::table();
     speed_circuits::table();
 }
