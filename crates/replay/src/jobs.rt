@@ -5,6 +5,8 @@ use normal_form::Written;
 use qasm::Edition;
 use record::Record;
 use ring::ZOmega;
+use rotation::root::Root;
+use rotation::root::Vect;
 use shown::number;
 use shown::signed;
 use shown::text;
@@ -130,6 +132,42 @@ fn synthesise(r: Record, lent: &mut [u8]) {
     and_lent(lent);
 }
 
+fn t_count(r: Record) {
+    let k = r.k;
+    let n = r.n;
+    let answer = rotation::t_count(k, n, z_of(r), w_of(r));
+    number(answer.refusal as u64);
+    and_number(answer.tees as u64);
+}
+
+fn and_root(x: Root) {
+    and_signed(x.p);
+    and_signed(x.q);
+}
+
+fn and_row(x: Root, y: Root, z: Root) {
+    and_root(x);
+    and_root(y);
+    and_root(z);
+}
+
+// The three columns, row by row.
+fn and_rows(x: Vect, y: Vect, z: Vect) {
+    and_row(x.x, y.x, z.x);
+    and_row(x.y, y.y, z.y);
+    and_row(x.z, y.z, z.z);
+}
+
+fn rotate(r: Record) {
+    let k = r.k;
+    let n = r.n;
+    let answer = rotation::rotate(k, n, z_of(r), w_of(r));
+    let rotation = answer.rotation;
+    number(answer.refusal as u64);
+    and_number(rotation.e as u64);
+    and_rows(rotation.x, rotation.y, rotation.z);
+}
+
 // The oracle asks for Cliffords of i32 only.
 fn narrow(x: i64) -> i32 {
     if x < -2147483648 {
@@ -204,6 +242,8 @@ fn of_record(job: u8, r: Record, lent: &mut [u8]) {
     match job {
         b'1' => reduce(r),
         b'4' => synthesise(r, lent),
+        b'T' => t_count(r),
+        b'A' => rotate(r),
         b'P' => product(r),
         b'I' => inverse(r),
         b'C' => coset(r),
