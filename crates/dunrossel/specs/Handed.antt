@@ -27,9 +27,13 @@ use Rattle.qasm.specs.Meaning.{WriteOutcome, ReadOutcome}
 use Rattle.qasm.specs.declared.Written.{Written as Converted}
 use Rattle.view.specs.declared.Answer.{Answer}
 use Rattle.view.specs.Meaning.Outcome.{ViewOutcome}
+use Rattle.rotation.specs.declared.Answer.{Answer as Rotated}
+use Rattle.rotation.specs.declared.Count.{Count}
+use Rattle.rotation.specs.Meaning.{RotationOutcome, CountOutcome}
 use Rattle.handed.specs.declared.Four.{Four}
-use Rattle.dunrossel.specs.Meaning.Exports.{Reduces, Multiplies, Views, Writes, Synthesises, Converts, argument, Multiplied, Inverted, Parted}
-use Rattle.handed.specs.Meaning.{zOf, wOf, ten, eightOf, counts, countsIn, fourOf, fiveOf, listed}
+use Rattle.dunrossel.specs.Meaning.Exports.{Reduces, Multiplies, Views, Counts, Rotates, Writes, Synthesises, Converts}
+use Rattle.dunrossel.specs.Meaning.Exports.{argument, Multiplied, Inverted, Parted}
+use Rattle.handed.specs.Meaning.{zOf, wOf, ten, eightOf, nineteenOf, counts, countsIn, fourOf, fiveOf, listed}
 use Rattle.handed.specs.Numbers.{held-small}
 
 -- ---- triples: what was said of the numbers read back is said of those handed in
@@ -45,6 +49,13 @@ module _ (k : ℤ) {z w : ZOmega} (zw : List ℤ) (fits : SFits w64 k) (z-is : z
 
     pub views : (j : Answer) (out : List Float) → ViewOutcome (held w64 k) n z w j → out ≡ eightOf (j .view) → Views k n zw (j .refusal, out)
     views j out o e = record { job = j; outcome = as-given (λ k z w. ViewOutcome k n z w j) o; is = λ i. (j .refusal, e i) }
+
+    pub countsTees : (j : Count) (out : ℕ) → CountOutcome (held w64 k) n z w j → out ≡ j .tees → Counts k n zw (j .refusal, out)
+    countsTees j out o e = record { job = j; outcome = as-given (λ k z w. CountOutcome k n z w j) o; is = λ i. (j .refusal, e i) }
+
+    pub rotates : (j : Rotated) (out : List ℤ) → RotationOutcome (held w64 k) n z w j → out ≡ nineteenOf (j .rotation)
+        → Rotates k n zw (j .refusal, out)
+    rotates j out o e = record { job = j; outcome = as-given (λ k z w. RotationOutcome k n z w j) o; is = λ i. (j .refusal, e i) }
 
     pub synthesises : (numbers : Synthesis → List ℕ) (old new : List ℕ) (j : Synthesis) (out : List ℕ)
         → SynthesiseOutcome (held w64 k) n z w old j new

@@ -27,7 +27,9 @@ use Rattle.circuit.specs.Meaning.{Edition}
 use Rattle.qasm.specs.Meaning.{WriteOutcome, ReadOutcome}
 use Rattle.qasm.specs.Unique.{write-unique, read-unique}
 use Rattle.view.specs.Unique.{view-unique}
-use Rattle.dunrossel.specs.Meaning.Exports.{Reduces, Multiplies, Views, Writes, Synthesises, Converts, argument, Multiplied, Inverted, Parted}
+use Rattle.rotation.specs.Unique.{count-unique, rotation-unique}
+use Rattle.dunrossel.specs.Meaning.Exports.{Reduces, Multiplies, Views, Counts, Rotates, Writes, Synthesises, Converts}
+use Rattle.dunrossel.specs.Meaning.Exports.{argument, Multiplied, Inverted, Parted}
 use Rattle.handed.specs.Meaning.{zOf, wOf}
 
 pub reduces-unique : (k : ℤ) (n : ℕ) (zw : List ℤ) → Only (Reduces k n zw)
@@ -38,6 +40,12 @@ multiplies-unique w = one-handed _ _ (matrix-unique w)
 
 pub views-unique : (k : ℤ) (n : ℕ) (zw : List ℤ) → Only (Views k n zw)
 views-unique k n zw = one-handed _ _ (view-unique k n (zOf zw) (wOf zw))
+
+pub counts-unique : (k : ℤ) (n : ℕ) (zw : List ℤ) → Only (Counts k n zw)
+counts-unique k n zw = one-handed _ _ (count-unique k n (zOf zw) (wOf zw))
+
+pub rotates-unique : (k : ℤ) (n : ℕ) (zw : List ℤ) → Only (Rotates k n zw)
+rotates-unique k n zw = one-handed _ _ (rotation-unique k n (zOf zw) (wOf zw))
 
 pub writes-unique : (Answer : List Letter → List Letter → Type 0) → ((u : List Letter) → Only (Answer u)) → (w old : List ℕ)
     → Only (Writes Answer w old)

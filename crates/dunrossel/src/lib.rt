@@ -3,7 +3,7 @@ ghost use Prim.Native.Nat.{_≤_};
 ghost use lib.ListN.{length};
 ghost use Rattle.exact.specs.Meaning.Limits.{enough};
 ghost use Rattle.exact.specs.Meaning.Lent.{lent};
-ghost use Rattle.dunrossel.specs.Meaning.Exports.{Reduces, Multiplies, Views};
+ghost use Rattle.dunrossel.specs.Meaning.Exports.{Reduces, Multiplies, Views, Counts, Rotates};
 ghost use Rattle.dunrossel.specs.Meaning.Exports.{Writes, Synthesises, Converts};
 ghost use Rattle.dunrossel.specs.Meaning.Exports.{Multiplied, Inverted, Parted};
 ghost use Rattle.dunrossel.specs.Meaning.Bench.{NumbersOutcome, BenchOutcome};
@@ -94,6 +94,29 @@ pub extern "C" fn dunrossel_view(k: i64, n: u8, zw: &[i64; 8], out: &mut [f64; 8
     let answer = view::view(k, n, z, w);
     let shown = answer.view;
     handed::put_view(shown, out);
+    answer.refusal
+}
+
+#[no_mangle]
+pub extern "C" fn dunrossel_t_count(k: i64, n: u8, zw: &[i64; 8], tees: &mut u64) -> u8
+    ensures { λ r. ⌜ Counts k n (now (zw .entry)) (r, now (tees .exit)) ⌝ }
+{
+    let z = handed::z_of(zw);
+    let w = handed::w_of(zw);
+    let answer = rotation::t_count(k, n, z, w);
+    *tees = answer.tees as u64;
+    answer.refusal
+}
+
+#[no_mangle]
+pub extern "C" fn dunrossel_rotation(k: i64, n: u8, zw: &[i64; 8], out: &mut [i64; 19]) -> u8
+    ensures { λ r. ⌜ Rotates k n (now (zw .entry)) (r, now (out .exit)) ⌝ }
+{
+    let z = handed::z_of(zw);
+    let w = handed::w_of(zw);
+    let answer = rotation::rotate(k, n, z, w);
+    let turned = answer.rotation;
+    handed::put_rotation(turned, out);
     answer.refusal
 }
 

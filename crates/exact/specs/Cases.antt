@@ -4,3 +4,4 @@ pub mod NormalTest
 pub mod Table
 pub mod PhaseFree
 pub mod Outside
+pub mod Rotations

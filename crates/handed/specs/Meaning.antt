@@ -13,6 +13,8 @@ use Rattle.clifford.specs.declared.Coset.{Coset}
 use Rattle.synthesis_of_clifford_t.specs.declared.Synthesis.{Synthesis}
 use Rattle.qasm.specs.declared.Written.{Written as Converted}
 use Rattle.view.specs.declared.matrix.View.{View}
+use Rattle.rotation.specs.declared.root.Root.{Root}
+use Rattle.rotation.specs.declared.Rotation.{Rotation}
 use Rattle.handed.specs.declared.Four.{Four}
 
 -- ---- triples: zw is z.a z.b z.c z.d w.a w.b w.c w.d; the ten are k, n, then zw
@@ -28,6 +30,15 @@ ten t = pos (t .k) ∷ pos (t .n) ∷ t .z .a ∷ t .z .b ∷ t .z .c ∷ t .z .
 -- eight floats: real and imaginary part of each entry, row by row
 abbrev pub eightOf : View → List Float
 eightOf v = v .re00 ∷ v .im00 ∷ v .re01 ∷ v .im01 ∷ v .re10 ∷ v .im10 ∷ v .re11 ∷ v .im11 ∷ []
+
+-- nineteen numbers: the exponent, then p and q of each entry, row by row, a column being what an axis becomes
+abbrev pub rowOf : Root → Root → Root → List ℤ → List ℤ
+rowOf x y z more = x .p ∷ x .q ∷ y .p ∷ y .q ∷ z .p ∷ z .q ∷ more
+
+abbrev pub nineteenOf : Rotation → List ℤ
+nineteenOf r =
+    pos (r .e) ∷
+    rowOf (r .x .x) (r .y .x) (r .z .x) (rowOf (r .x .y) (r .y .y) (r .z .y) (rowOf (r .x .z) (r .y .z) (r .z .z) []))
 
 -- ---- words and circuits in lent bytes: place, bytes and T letters; the place of a synthesis is always 0, and its steps may follow
 abbrev pub counts : Written → List ℕ

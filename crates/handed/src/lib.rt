@@ -1,13 +1,14 @@
 // What the exports are handed and hand back: numbers taken from arrays, and answers put into them.
 ghost use mathlib.Core.Path.{_≡_};
 ghost use Rattle.clifford.specs.Meaning.{axisNumber};
-ghost use Rattle.handed.specs.Meaning.{zOf, wOf, ten, eightOf, counts, countsOf, stepsOf, countsIn, fourOf, fiveOf, listed};
+ghost use Rattle.handed.specs.Meaning.{zOf, wOf, ten, eightOf, nineteenOf, counts, countsOf, stepsOf, countsIn, fourOf, fiveOf, listed};
 ghost use Rattle.handed.specs.Numbers.{Wide};
 use clifford::Axis;
 use clifford::Clifford;
 use clifford::Coset;
 use normal_form::Written;
 use ring::ZOmega;
+use rotation::Rotation;
 use synthesis_of_clifford_t::Synthesis;
 use unitary::DOmegaUnitary;
 use view::matrix::View;
@@ -128,6 +129,47 @@ pub fn put_view(v: View, out: &mut [f64; 8])
         v.re11,
         v.im11,
     ];
+}
+
+// Row by row: a row has a part of each column.
+pub fn put_rotation(r: Rotation, out: &mut [i64; 19])
+    ensures { λ q. ⌜ now (out .exit) ≡ nineteenOf r ⌝ }
+{
+    let x = r.x;
+    let y = r.y;
+    let z = r.z;
+    let e = wide(r.e);
+    let xx = x.x;
+    let xy = x.y;
+    let xz = x.z;
+    let yx = y.x;
+    let yy = y.y;
+    let yz = y.z;
+    let zx = z.x;
+    let zy = z.y;
+    let zz = z.z;
+    let numbers = [
+        e,
+        xx.p,
+        xx.q,
+        yx.p,
+        yx.q,
+        zx.p,
+        zx.q,
+        xy.p,
+        xy.q,
+        yy.p,
+        yy.q,
+        zy.p,
+        zy.q,
+        xz.p,
+        xz.q,
+        yz.p,
+        yz.q,
+        zz.p,
+        zz.q,
+    ];
+    *out = numbers;
 }
 
 pub fn put_synthesis(answer: Synthesis, out: &mut [u64; 3])

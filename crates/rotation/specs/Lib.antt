@@ -5,3 +5,6 @@ pub mod Columns
 pub mod Turned
 pub mod Shared
 pub mod Ways
+pub mod Unique
+pub mod Answers
+pub mod Useless

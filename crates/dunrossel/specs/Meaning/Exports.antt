@@ -19,7 +19,10 @@ use Rattle.synthesis_of_clifford_t.specs.Meaning.{SynthesiseOutcome}
 use Rattle.qasm.specs.declared.Written.{Written as Converted}
 use Rattle.view.specs.declared.Answer.{Answer}
 use Rattle.view.specs.Meaning.Outcome.{ViewOutcome}
-use Rattle.handed.specs.Meaning.{zOf, wOf, ten, eightOf, counts, countsIn, fourOf, fiveOf}
+use Rattle.rotation.specs.declared.Answer.{Answer as Rotated}
+use Rattle.rotation.specs.declared.Count.{Count}
+use Rattle.rotation.specs.Meaning.{RotationOutcome, CountOutcome}
+use Rattle.handed.specs.Meaning.{zOf, wOf, ten, eightOf, nineteenOf, counts, countsIn, fourOf, fiveOf}
 
 -- ---- triples: zw is z.a z.b z.c z.d w.a w.b w.c w.d; the ten are k, n, then zw
 -- job 1: the refusal, the ten
@@ -33,6 +36,14 @@ Multiplies w = HandsOn (MatrixOutcome w) (λ (j : FromGates). (j .refusal, (ten 
 -- job 7: the refusal, and eight floats: real and imaginary part of each entry, row by row
 abbrev pub Views : ℤ → ℕ → List ℤ → ℕ × List Float → Type 0
 Views k n zw = HandsOn (ViewOutcome k n (zOf zw) (wOf zw)) (λ (j : Answer). (j .refusal, eightOf (j .view)))
+
+-- the T count: the refusal, the count
+abbrev pub Counts : ℤ → ℕ → List ℤ → ℕ × ℕ → Type 0
+Counts k n zw = HandsOn (CountOutcome k n (zOf zw) (wOf zw)) (λ (j : Count). (j .refusal, j .tees))
+
+-- the rotation: the refusal, the exponent and nine entries, row by row
+abbrev pub Rotates : ℤ → ℕ → List ℤ → ℕ × List ℤ → Type 0
+Rotates k n zw = HandsOn (RotationOutcome k n (zOf zw) (wOf zw)) (λ (j : Rotated). (j .refusal, nineteenOf (j .rotation)))
 
 -- ---- words in lent bytes: the refusal; place, bytes and T letters; the lent bytes at the end
 -- jobs 3 and 5

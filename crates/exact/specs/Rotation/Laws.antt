@@ -167,12 +167,15 @@ rotation-trans {r} {s} {t} h k =
         ∙ lift-swap (r .e) (s .e) w)
 
 -- at one exponent they are equal
-pub same-columns : {m n : Three (Vect ℤ)} {e : ℕ} → SameRotation (record { m = m; e = e }) (record { m = n; e = e }) → m ≡ n
-same-columns {m} {n} {e} h =
-    let x-is = lift-cancel e (m .x) (n .x) (h .x-same) in
-    let y-is = lift-cancel e (m .y) (n .y) (h .y-same) in
-    let z-is = lift-cancel e (m .z) (n .z) (h .z-same) in
-    λ i. record { x = x-is i; y = y-is i; z = z-is i }
+pub one-rotation : {r s : Rotation} → SameRotation r s → r .e ≡ s .e → r ≡ s
+one-rotation {r} {s} h k =
+    let x-is = part (r .m .x) (s .m .x) (h .x-same) in
+    let y-is = part (r .m .y) (s .m .y) (h .y-same) in
+    let z-is = part (r .m .z) (s .m .z) (h .z-same) in
+    λ i. record { m = record { x = x-is i; y = y-is i; z = z-is i }; e = k i }
+  where
+    part : (v w : Vect ℤ) → lift (s .e) v ≡ lift (r .e) w → v ≡ w
+    part v w e = lift-cancel (s .e) v w (e ∙ ap (λ n. lift n w) k)
 
 -- ---- one matrix has one rotation, however it is written
 pub rotation-same : {x y : Matrix} {r s : Rotation} → Same x y → RotationOf x r → RotationOf y s → SameRotation r s

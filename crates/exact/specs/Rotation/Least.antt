@@ -136,7 +136,3 @@ quotient n m d = go (n % 2) refl
     go : (b : ℕ) → n % 2 ≡ b → Quotient n m
     go zero e = by (evenly (n / 2)) (λ r. evenly-lift n (n / 2) r (omega arith))
     go (suc b) e = by (oddly (n / 2)) (λ r. oddly-lift n (n / 2) r (omega arith))
-
--- what stays when it is written with less
-pub lowered-its : {r s : Rotation} {e : ℕ} → SameRotation r s → LeastExponent r e → s .e ≡ e → LeastExponent s (s .e)
-lowered-its {r} {s} h l e = subst (LeastExponent s) (sym e) (least-moved h l)
