@@ -9,5 +9,6 @@ pub mod Unique
 pub mod Identity
 pub mod Again
 pub mod Steps
+pub mod Tees
 pub mod Phase
 pub mod Enough
