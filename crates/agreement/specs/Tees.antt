@@ -1,6 +1,6 @@
 -- The T count and job 4, over the jobs and over the exports: with 376 bytes lent, job 4 refuses what the T count refuses, by the same number, and the T
 -- letters that it writes are as many; with fewer, where it accepts. The rotation's exponent is that number too. Assumes nothing.
-use mathlib.Core.Path.{_≡_, refl, sym, _∙_, ap, ap₂, subst}
+use mathlib.Core.Path.{_≡_, refl, sym, _∙_, ap, subst}
 use mathlib.Core.List.{List}
 use Prim.Native.Nat.{ℕ, _≤_}
 use native.Mathlib.Omega.{arith}
@@ -9,8 +9,8 @@ use lib.ListN.{length, getD}
 use Rattle.exact.specs.Meaning.Matrix.{Matrix}
 use Rattle.exact.specs.Meaning.Limits.{enough, Accepted}
 use Rattle.exact.specs.Meaning.Outcome.{Refusals, none, _then_, _also_, Rung, Outcome}
-use Rattle.exact.specs.Meaning.Lent.{Lent, lent, untouched, Writes}
-use Rattle.exact.specs.Meaning.Refusals.{TooMany, checks, room}
+use Rattle.exact.specs.Meaning.Lent.{Lent, untouched, Writes}
+use Rattle.exact.specs.Meaning.Refusals.{checks, room}
 use Rattle.exact.specs.Cases.Letters.{bytes-length}
 use Rattle.exact.specs.Matrices.Same.{Same-sym}
 use Rattle.exact.specs.Outcomes.Ladder.{Passed, NoneGives, pass, carry}
@@ -20,7 +20,7 @@ use Rattle.exact.specs.Rotation.Least.{normal-least}
 use Rattle.ring.specs.Meaning.{quad}
 use Rattle.ring.specs.declared.ZOmega.{ZOmega}
 use Rattle.synthesis_of_clifford_t.specs.declared.Synthesis.{Synthesis}
-use Rattle.synthesis_of_clifford_t.specs.Meaning.{Spelling, text, refused, counts, SpellingOf, asked, SynthesiseOutcome}
+use Rattle.synthesis_of_clifford_t.specs.Meaning.{text, refused, counts, SpellingOf, asked, SynthesiseOutcome}
 use Rattle.synthesis_of_clifford_t.specs.Enough.{answer-short}
 use Rattle.rotation.specs.declared.Count.{Count}
 use Rattle.rotation.specs.Meaning.{refusedCount, Counts, CountOutcome}
@@ -79,9 +79,9 @@ module _ (k : ℤ) (n : ℕ) (z w : ZOmega) (old : List ℕ) where
   pub accepted-counts : (j : Lent Synthesis) → Job4 j → j .handed .refusal ≡ Accepted → CountOutcome k n z w (countOf j)
   accepted-counts j o e =
       let s =
-          through (untouched refused old) (Writes text counts (SpellingOf matrix) old) (λ (i : Lent Synthesis). i .handed .refusal ≡ Accepted)
-          (checks k (quad z) (quad w)) (room text (SpellingOf matrix) old then none)
-          ((λ p h. omega arith), ((λ p h. omega arith), ((λ p h. omega arith), tt))) j e o in
+      through (untouched refused old) (Writes text counts (SpellingOf matrix) old) (λ (i : Lent Synthesis). i .handed .refusal ≡ Accepted)
+      (checks k (quad z) (quad w)) (room text (SpellingOf matrix) old then none)
+      ((λ p h. omega arith), ((λ p h. omega arith), ((λ p h. omega arith), tt))) j e o in
       pass refusedCount (Counts matrix) (checks k (quad z) (quad w)) none (s .0) (countOf j) (behind (s .1))
     where
       behind : Outcome (untouched refused old) (Writes text counts (SpellingOf matrix) old) (room text (SpellingOf matrix) old then none) j

@@ -1,7 +1,6 @@
--- The rotation that a matrix is, in vectors over ℤ[root two]: of words and of triples; parities of the turned vectors.
+-- The rotation that a matrix is: in vectors over ℤ[root two], by letters, with parities; its laws, sizes and least exponent; and worked out from a triple.
 pub mod Vectors
 pub mod Turns
-pub mod Triples
 pub mod Parity
 pub mod Laws
 pub mod Orthogonal

@@ -64,7 +64,9 @@ module _ (k : ℤ) (n : ℕ) (z w : ZOmega) where
 
   -- ---- how many at most
   module _ (c : Count) (o : CountOutcome k n z w c) where
-    each : (P : Count → Type 0) → ((m p : ℕ) → P (refusedCount m p)) → (Passed (checks k (quad z) (quad w)) → (j : Count) → Counts asked j → P j) → P c
+    each : (P : Count → Type 0) → ((m p : ℕ) → P (refusedCount m p))
+        → (Passed (checks k (quad z) (quad w)) → (j : Count) → Counts asked j → P j)
+        → P c
     each P f g = always refusedCount (Counts asked) P f (checks k (quad z) (quad w)) g c o
 
     there : Passed (checks k (quad z) (quad w)) → Unitary (given k n z w)

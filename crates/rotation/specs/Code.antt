@@ -1,12 +1,11 @@
 -- What a machine's sums, negatives and shifts of p and q need and give: arguments 0 and 1 are those of the first number, 2 and 3 those of the second.
 -- Assumes nothing.
-use mathlib.Core.Path.{_≡_, refl, sym, _∙_, ap, ap₂}
-use mathlib.Core.List.{List, [], _∷_}
-use Prim.Native.Nat.{ℕ, _+_, _%_, _/_, _^_, _≤_, _<_}
+use mathlib.Core.Path.{_≡_, _∙_, ap, ap₂}
+use Prim.Native.Nat.{ℕ, _+_, _%_, _/_, _^_, _≤_}
 use native.Mathlib.Numerals.{add-one}
 use native.Mathlib.Omega.{arith}
 use lib.IntN.{ℤ, pos, negℤ, natAbs, _+ℤ_, _-ℤ_, +ℤ-idl}
-use lib.Signed.{shrZ, mag, mag-shr}
+use lib.Signed.{shrZ, mag-shr}
 use mir.Syntax.{w64}
 use mir.Val.{SFits}
 use mir.Facts.{toZ-ofZ}
@@ -16,7 +15,7 @@ use Rattle.exact.specs.Meaning.Rotation.{addR, negR, timesR, lift}
 use Rattle.exact.specs.Whole.Machine.{held}
 use Rattle.exact.specs.Whole.Size.{natAbs-neg, natAbs-add, sfits-abs}
 use Rattle.exact.specs.Algebra.RootTwo.{root-path}
-use Rattle.exact.specs.Algebra.RootPower.{DividesR, liftR, evenly, oddly, evenly-lift, oddly-lift}
+use Rattle.exact.specs.Algebra.RootPower.{DividesR, liftR, evenly-lift, oddly-lift}
 use Rattle.exact.specs.Rotation.Vectors.{vect-path, lift-parts}
 use Rattle.exact.specs.Rotation.Sizes.{Up, up-le, up-add}
 use Rattle.exact.specs.Rotation.Worked.{subR}
@@ -111,7 +110,8 @@ module _ (x : Root) (h : Up (2 ^ 62) (root x)) where
   pub q-minus : SFits w64 (pos 0 -ℤ held w64 (x .q))
   q-minus = minus-fits (x .q) (h .q-small)
 
-  pub negated : _≡_ {A = Exact.Root ℤ} (record { p = held w64 (pos 0 -ℤ held w64 (x .p)); q = held w64 (pos 0 -ℤ held w64 (x .q)) }) (negR ints (root x))
+  pub negated : _≡_ {A = Exact.Root ℤ} (record { p = held w64 (pos 0 -ℤ held w64 (x .p)); q = held w64 (pos 0 -ℤ held w64 (x .q)) })
+      (negR ints (root x))
   negated = root-path (minus-held (x .p) (h .p-small)) (minus-held (x .q) (h .q-small))
 
 -- ---- root two times

@@ -118,7 +118,9 @@ module _ (z w : ZOmega) (h : Normed (quad z) (quad w)) (a b c d : ℤ) (a-is : a
   pub norms-is : _≡_ {A = Exact.Root ℤ} (record { p = held w64 (held w64 a -ℤ held w64 b); q = held w64 (held w64 c -ℤ held w64 d) })
       (norms ints (quad z) (quad w))
   norms-is =
-      root-path (difference-held a b a-small b-small p-small ∙ ap₂ _-ℤ_ a-is b-is) (difference-held c d c-small d-small q-small ∙ ap₂ _-ℤ_ c-is d-is)
+      root-path
+      (difference-held a b a-small b-small p-small ∙ ap₂ _-ℤ_ a-is b-is)
+      (difference-held c d c-small d-small q-small ∙ ap₂ _-ℤ_ c-is d-is)
 
 -- ---- squares: naively at most 2^62
 module _ (x : ZOmega) (s : Sized (2 ^ 30) (quad x)) where

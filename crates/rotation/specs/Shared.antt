@@ -1,5 +1,5 @@
 -- What power of root two divides all nine entries, told by the trailing zeros of two numbers: the `or` of all p, and that of all q. Assumes nothing.
-use mathlib.Core.Path.{_≡_, refl, sym, _∙_, ap, subst}
+use mathlib.Core.Path.{_≡_, sym, _∙_, ap, subst}
 use Prim.Native.Nat.{ℕ, suc, _+_, _-_, _*_, _/_, _%_, _≤_, _<_, min}
 use native.Mathlib.Omega.{arith}
 use lib.Bits.{bitOr}
@@ -167,6 +167,7 @@ pub record Lowered (n : ℕ) (s r : Rotation) : Type 0 where
   pub lifted : lifts n (axesOf r) ≡ axesOf s
   pub e-is : r .e ≡ s .e - n
 
-pub lowered : (n : ℕ) (s r : Rotation) → lift n (vect (r .x)) ≡ vect (s .x) → lift n (vect (r .y)) ≡ vect (s .y) → lift n (vect (r .z)) ≡ vect (s .z)
+pub lowered : (n : ℕ) (s r : Rotation) → lift n (vect (r .x)) ≡ vect (s .x) → lift n (vect (r .y)) ≡ vect (s .y)
+    → lift n (vect (r .z)) ≡ vect (s .z)
     → r .e ≡ s .e - n → Lowered n s r
 lowered n s r x y z e = record { lifted = λ i. record { x = x i; y = y i; z = z i }; e-is = e }

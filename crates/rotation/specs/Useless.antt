@@ -15,7 +15,7 @@ use Rattle.exact.specs.Meaning.Refusals.{checks}
 use Rattle.exact.specs.Meaning.Outcome.{none}
 use Rattle.exact.specs.Cases.NormalTest.{normal-by}
 use Rattle.exact.specs.Matrices.Test.{same-by}
-use Rattle.exact.specs.Outcomes.Ladder.{pass, answered}
+use Rattle.exact.specs.Outcomes.Ladder.{pass}
 use Rattle.exact.specs.Outcomes.Checked.{Taken, taken-checks}
 use Rattle.exact.specs.Rotation.Laws.{wordRotation, rotation-word, rotation-moved}
 use Rattle.exact.specs.Rotation.Least.{normal-least}
@@ -26,7 +26,7 @@ use Rattle.rotation.specs.declared.root.Vect.{Vect}
 use Rattle.rotation.specs.declared.Rotation.{Rotation}
 use Rattle.rotation.specs.declared.Answer.{Answer}
 use Rattle.rotation.specs.declared.Count.{Count}
-use Rattle.rotation.specs.Meaning.{rotationOf, refused, Turns, RotationOutcome, refusedCount, Counts, CountOutcome}
+use Rattle.rotation.specs.Meaning.{refused, Turns, RotationOutcome, refusedCount, Counts, CountOutcome}
 use Rattle.rotation.specs.Unique.{rotation-unique, count-unique}
 
 -- ---- HT: z = 1, w = 1, n = 5, k = 1

@@ -1,6 +1,6 @@
 -- The ways out of the two jobs: what the check refuses is refused; of the rest the rotation that was worked out, s, is divided by root two as often as it
 -- can be, which is its least exponent. Assumes nothing.
-use mathlib.Core.Path.{_≡_, refl, sym, ap, subst}
+use mathlib.Core.Path.{_≡_, refl, sym, subst}
 use Prim.Native.Nat.{ℕ, _-_, _≤_}
 use lib.IntN.{ℤ, natAbs}
 use mir.Syntax.{w64}

@@ -1,10 +1,10 @@
 -- Powers of omega turn by turn, and an exponent from 0 to 60 as the machine casts it. Assumes nothing.
 use mathlib.Core.Path.{_≡_, sym, _∙_, ap}
-use Prim.Native.Nat.{ℕ, _+_, _%_, _^_}
+use Prim.Native.Nat.{ℕ, _+_, _%_}
 use native.Mathlib.Numerals.{add-one}
 use native.Mathlib.Omega.{arith}
 use lib.Dec.{T}
-use lib.IntN.{ℤ, pos, natAbs}
+use lib.IntN.{ℤ, natAbs}
 use lib.Signed.{nonNeg, yes-nonNeg}
 use mir.Syntax.{w32}
 use mir.Val.{Fits}

@@ -2,7 +2,7 @@
 -- a product's is the product, a phase changes nothing and the identity's is none. Of words and of triples too. Assumes nothing.
 use mathlib.Core.Path.{_≡_, refl, sym, _∙_, ap, ap₂}
 use mathlib.Core.List.{List, [], _∷_, _++_}
-use Prim.Native.Nat.{ℕ, suc, _+_}
+use Prim.Native.Nat.{ℕ, _+_}
 use native.Mathlib.Nat.{add-zero, add-comm}
 use lib.IntN.{ℤ, pos}
 use Rattle.exact.specs.Meaning.Number.{Ops, Quad, Ω, ints, omegas, quads, mulQ, conjQ, constQ, omega^, root2^}
@@ -14,14 +14,14 @@ use Rattle.exact.specs.Algebra.Ring.{ints-laws}
 use Rattle.exact.specs.Algebra.Solver.{Expr, var, exprs}
 use Rattle.exact.specs.Algebra.Omega.{omegas-laws, conj-mul, root2^-add}
 use Rattle.exact.specs.Algebra.OmegaPower.{omega^-conj}
-use Rattle.exact.specs.Matrices.Laws.{mat-path, M₀, M₁, M₂, M₃, entriesOf, solveM, passed, solveMQ, scale-mulM, scale-scale, scale-swap, scale-past, scale-both, scale-one}
+use Rattle.exact.specs.Matrices.Laws.{mat-path, M₀, M₁, M₂, M₃, entriesOf, solveM, passed, solveMQ}
+use Rattle.exact.specs.Matrices.Laws.{scale-mulM, scale-scale, scale-swap, scale-past, scale-both, scale-one}
 use Rattle.exact.specs.Matrices.Same.{lifted, lifted-cancel, Same-of}
 use Rattle.exact.specs.Matrices.Star.{sand, lifted-sand}
 use Rattle.exact.specs.Matrices.Words.{word-append}
 use Rattle.exact.specs.Matrices.Triples.{mulT, mulT-is}
 use Rattle.exact.specs.Rotation.Vectors.{turn, sigma, V₀, coords, lift-add, lift-cancel, lifted-sigma}
 use Rattle.exact.specs.Rotation.Turns.{Turns, turns-unit, turns-mul, turns-same, turns-word}
-use Rattle.exact.specs.Rotation.Triples.{rotate, turns-triple}
 
 -- ---- by the axes, as `Turns`
 along-is : (v : Vect ℤ) → along ints v ≡ sigma ints v
@@ -106,7 +106,8 @@ by-axes v = solveMQ ints ints-laws (coords v) (sigma exprs V₀) (combined exprs
 
 turned-is : (v : Vect ℤ) (m : Three (Vect ℤ)) → combined ints v m ≡ sigma ints (turnedBy ints m v)
 turned-is v m =
-    solveMQ ints ints-laws (coords v ++ (coords (m .x) ++ (coords (m .y) ++ coords (m .z)))) (combined exprs V₀ M) (sigma exprs (turnedBy exprs M V₀)) passed
+    solveMQ ints ints-laws (coords v ++ (coords (m .x) ++ (coords (m .y) ++ coords (m .z))))
+    (combined exprs V₀ M) (sigma exprs (turnedBy exprs M V₀)) passed
   where
     M : Three (Vect Expr)
     M = record { x = vectAt 6; y = vectAt 12; z = vectAt 18 }
@@ -211,7 +212,8 @@ moved {x} {y} {v} {w} {f} s h =
           lifted-cancel (x .e) (lifted f t) (lifted (y .e) (lifted (y .e) (sigma ints w)))
           (lifted-cancel (x .e) (lifted (x .e) (lifted f t)) (lifted (x .e) (lifted (y .e) (lifted (y .e) (sigma ints w))))
           (sym (scale-past omegas omegas-laws (root2^ f) (root2^ (x .e)) t)
-          ∙ ap (lifted f) (sym (lifted-sand (x .e) (y .m) (sigma ints v)) ∙ ap (λ m. sand m (sigma ints v)) (sym (s .same)) ∙ lifted-sand (y .e) (x .m) (sigma ints v))
+          ∙ ap (lifted f)
+          (sym (lifted-sand (x .e) (y .m) (sigma ints v)) ∙ ap (λ m. sand m (sigma ints v)) (sym (s .same)) ∙ lifted-sand (y .e) (x .m) (sigma ints v))
           ∙ scale-past omegas omegas-laws (root2^ f) (root2^ (y .e)) (sand (x .m) (sigma ints v))
           ∙ ap (λ m. lifted (y .e) (lifted (y .e) m)) (h .turned)
           ∙ ap (lifted (y .e)) (scale-past omegas omegas-laws (root2^ (y .e)) (root2^ (x .e)) (sigma ints w))
@@ -240,7 +242,8 @@ pub rotation-unit : RotationOf unit still
 rotation-unit = of-axes (record { x = turns-unit (axes ints .x); y = turns-unit (axes ints .y); z = turns-unit (axes ints .z) })
 
 -- ---- a number of size 1 in front changes nothing
-turns-scaled : (c : Ω) → mulQ ints c (conjQ ints c) ≡ constQ ints (pos 1) → {x : Matrix} {v y : Vect ℤ} {f : ℕ} → Turns x v y f → Turns (scaled c x) v y f
+turns-scaled : (c : Ω) → mulQ ints c (conjQ ints c) ≡ constQ ints (pos 1) → {x : Matrix} {v y : Vect ℤ} {f : ℕ} → Turns x v y f
+    → Turns (scaled c x) v y f
 turns-scaled c one {x} {v} {y} {f} h = record { turned = ap (lifted f) away ∙ h .turned }
   where
     star-scaled : starM ints (scaleM omegas c (x .m)) ≡ scaleM omegas (conjQ ints c) (starM ints (x .m))
@@ -275,12 +278,5 @@ pub rotation-append : (u v : List Letter) → SameRotation (wordRotation (u ++ v
 rotation-append u v = rotation-same (Same-of (word-append u v)) (rotation-word (u ++ v)) (rotation-mul (rotation-word u) (rotation-word v))
 
 -- ---- triples
-abbrev pub tripleRotation : Triple → Rotation
-tripleRotation t =
-    record { m = record { x = rotate t (axes ints .x); y = rotate t (axes ints .y); z = rotate t (axes ints .z) }; e = suc (t .k + t .k) }
-
-pub rotation-triple : (t : Triple) → RotationOf (entries t) (tripleRotation t)
-rotation-triple t = of-axes (record { x = turns-triple t (axes ints .x); y = turns-triple t (axes ints .y); z = turns-triple t (axes ints .z) })
-
-pub rotation-mulT : (s t : Triple) → SameRotation (tripleRotation (mulT s t)) (tripleRotation s ∘ tripleRotation t)
-rotation-mulT s t = rotation-same (Same-of (mulT-is s t)) (rotation-triple (mulT s t)) (rotation-mul (rotation-triple s) (rotation-triple t))
+pub rotation-mulT : (s t : Triple) {r q : Rotation} → RotationOf (entries s) r → RotationOf (entries t) q → RotationOf (entries (mulT s t)) (r ∘ q)
+rotation-mulT s t h k = rw (mulT-is s t) (rotation-mul h k)

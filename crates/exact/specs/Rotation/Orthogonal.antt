@@ -1,21 +1,19 @@
 -- The rotation of a matrix that its conjugate transposed inverts is orthogonal: the columns' inner products are those of the axes, by the trace of a
 -- product. So an entry (p + q·root two) over root two to the e has p² + 2q² at most 2^e. Assumes nothing.
-use mathlib.Core.Path.{_≡_, refl, sym, _∙_, ap, ap₂}
-use mathlib.Core.List.{List, [], _∷_, _++_}
-use Prim.Native.Nat.{ℕ, zero, suc, _+_, _*_, _^_, _≤_}
-use native.Mathlib.Omega.{arith}
-use lib.IntN.{ℤ, pos, negsuc, natAbs, _+ℤ_, _*ℤ_}
+use mathlib.Core.Path.{_≡_, sym, _∙_, ap, ap₂}
+use mathlib.Core.List.{[], _∷_, _++_}
+use Prim.Native.Nat.{ℕ, zero, suc, _+_}
+use lib.IntN.{ℤ}
 use Rattle.exact.specs.Meaning.Number.{Ops, Quad, Ω, ints, omegas, quads, addQ, mulQ, root2, root2^}
 use Rattle.exact.specs.Meaning.Matrix.{Mat, unitM, mulM, scaleM, starM, Matrix}
-use Rattle.exact.specs.Meaning.Rotation.{Root, Three, Vect, constR, addR, mulR, timesR, ofRoot, lift, axes, Rotation, Orthogonal, RotationOf}
+use Rattle.exact.specs.Meaning.Rotation.{Root, Three, Vect, addR, mulR, ofRoot, lift, axes, Rotation, Orthogonal, RotationOf}
 use Rattle.exact.specs.Whole.Parity.{halved}
 use Rattle.exact.specs.Algebra.Ring.{ints-laws}
-use Rattle.exact.specs.Algebra.Solver.{Expr, var, con, _⊕_, _⊗_, exprs, solve, ring₂}
+use Rattle.exact.specs.Algebra.Solver.{Expr, var, _⊕_, _⊗_, exprs, solve, ring₂}
 use Rattle.exact.specs.Algebra.Omega.{omegas-laws, quad-path, root2^-cancel, solveQ}
 use Rattle.exact.specs.Algebra.RootTwo.{root-path, ofRoot-times}
 use Rattle.exact.specs.Algebra.RootPower.{liftR, liftR-add}
 use Rattle.exact.specs.Matrices.Laws.{M₀, M₁, M₂, M₃, entriesOf}
-use Rattle.exact.specs.Matrices.Same.{lifted}
 use Rattle.exact.specs.Matrices.Star.{Isometry, sand}
 use Rattle.exact.specs.Rotation.Vectors.{sigma, V₀, coords, vect-path, lift-parts}
 use Rattle.exact.specs.Rotation.Turns.{Turns}
@@ -112,7 +110,8 @@ module _ {u : Matrix} (i : Isometry u) {v w y y′ : Vect ℤ} {f : ℕ} (h : Tu
   traces : mulQ ints d (mulQ ints d (trace omegas s t)) ≡ trace omegas (sigma ints y) (sigma ints y′)
   traces =
       four-cancel (u .e) (mulQ ints d (mulQ ints d (trace omegas s t))) (trace omegas (sigma ints y) (sigma ints y′))
-      (solve omegas omegas-laws (c ∷ d ∷ trace omegas s t ∷ []) (four exprs (var 0) (var 1 ⊗ (var 1 ⊗ var 2))) (var 1 ⊗ (var 1 ⊗ four exprs (var 0) (var 2))) tt
+      (solve omegas omegas-laws (c ∷ d ∷ trace omegas s t ∷ [])
+      (four exprs (var 0) (var 1 ⊗ (var 1 ⊗ var 2))) (var 1 ⊗ (var 1 ⊗ four exprs (var 0) (var 2))) tt
       ∙ ap (λ x. mulQ ints d (mulQ ints d x)) (sym kept)
       ∙ sym (trace-once d (sand (u .m) s) (sand (u .m) t))
       ∙ ap₂ (trace omegas) (h .turned) (k .turned)
@@ -140,9 +139,14 @@ module _ {u : Matrix} (i : Isometry u) {v w y y′ : Vect ℤ} {f : ℕ} (h : Tu
           ∙ ap (λ x. mulQ ints d (mulQ ints d x)) (trace-sigma v w)
           ∙ ring₂ omegas omegas-laws (λ d g. d ⊗ (d ⊗ (g ⊕ g))) (λ d g. d ⊗ (d ⊗ g) ⊕ d ⊗ (d ⊗ g)) tt d g
           ∙ ap (λ x. addQ ints x x)
-          (ap (mulQ ints d) (sym (of-lift f (dot ints v w))) ∙ sym (of-lift f (liftR f (dot ints v w))) ∙ ap (ofRoot ints) (sym (liftR-add f f (dot ints v w)))))
+          (ap (mulQ ints d) (sym (of-lift f (dot ints v w)))
+          ∙ sym (of-lift f (liftR f (dot ints v w)))
+          ∙ ap (ofRoot ints) (sym (liftR-add f f (dot ints v w)))))
 
 -- ---- the theorem
+abbrev dots : Vect ℤ → Three (Vect ℤ) → Vect ℤ
+dots v m = record { x = dot ints v (m .x); y = dot ints v (m .y); z = dot ints v (m .z) }
+
 pub orthogonal : {u : Matrix} {r : Rotation} → Isometry u → RotationOf u r → Orthogonal r
 orthogonal {u} {r} i h = record { inverted = record { x-same = column (g .x); y-same = column (g .y); z-same = column (g .z) } }
   where
@@ -152,8 +156,6 @@ orthogonal {u} {r} i h = record { inverted = record { x-same = column (g .x); y-
     n : ℕ
     n = r .e + r .e
 
-    column : {v y : Vect ℤ} → Turns u v y (r .e)
-        → _≡_ {A = Vect ℤ} (record { x = dot ints y (r .m .x); y = dot ints y (r .m .y); z = dot ints y (r .m .z) }) (lift n (record { x = dot ints v (axes ints .x); y = dot ints v (axes ints .y); z = dot ints v (axes ints .z) }))
-    column {v} {y} t =
-        vect-path (dot-kept i t (g .x)) (dot-kept i t (g .y)) (dot-kept i t (g .z))
-        ∙ sym (lift-parts n (record { x = dot ints v (axes ints .x); y = dot ints v (axes ints .y); z = dot ints v (axes ints .z) }))
+    -- its inner products with a rotation's columns
+    column : {v y : Vect ℤ} → Turns u v y (r .e) → dots y (r .m) ≡ lift n (dots v (axes ints))
+    column {v} {y} t = vect-path (dot-kept i t (g .x)) (dot-kept i t (g .y)) (dot-kept i t (g .z)) ∙ sym (lift-parts n (dots v (axes ints)))

@@ -1,9 +1,10 @@
 -- The rotation of a triple, worked out: of (z, w, 0) by squares and products of z and w over root two to the 2k, then turned about Z by n eighths, of
 -- which the odd one costs a root two. Assumes nothing.
-use mathlib.Core.Path.{_≡_, refl, sym, _∙_, ap, subst}
-use mathlib.Core.List.{List, [], _∷_, _++_}
-use Prim.Native.Nat.{ℕ, suc, _+_}
+use mathlib.Core.Path.{_≡_, sym, _∙_, ap, subst}
+use mathlib.Core.List.{List, [], _++_}
+use Prim.Native.Nat.{ℕ, zero, suc, _+_}
 use native.Mathlib.Nat.{add-zero}
+use native.Mathlib.Numerals.{add-one}
 use lib.Dec.{T}
 use lib.IntN.{ℤ, pos}
 use Rattle.exact.specs.Meaning.Number.{Ops, Quad, Ω, ints, omegas, quads, power, mulQ, conjQ, constQ, omega′, omega^, root2^}
@@ -11,7 +12,7 @@ use Rattle.exact.specs.Meaning.Matrix.{Mat, mulM, scaleM, starM, Matrix,
 use Rattle.exact.specs.Meaning.Word.{Letter, S, T′, letterM, letter, tee}
 use Rattle.exact.specs.Meaning.Triple.{Triple, rows, squares, crosses, entries}
 use Rattle.exact.specs.Meaning.Rotation.{Root, Three, Vect, addR, negR, axes, addV, timesV, turnedBy, Rotation, RotationOf}
-use Rattle.exact.specs.Algebra.Ring.{Laws, ints-laws}
+use Rattle.exact.specs.Algebra.Ring.{ints-laws}
 use Rattle.exact.specs.Algebra.Solver.{Expr, exprs, same}
 use Rattle.exact.specs.Algebra.Omega.{omegas-laws, root2^-add, X₀, X₁, X₂, parts}
 use Rattle.exact.specs.Algebra.OmegaPower.{omega^-add}
@@ -21,7 +22,7 @@ use Rattle.exact.specs.Matrices.Same.{matrix-path, lifted}
 use Rattle.exact.specs.Matrices.Star.{sand}
 use Rattle.exact.specs.Rotation.Vectors.{vect-path, turnL, sigma, coords}
 use Rattle.exact.specs.Rotation.Turns.{Turns, turns-mul, turns-letter}
-use Rattle.exact.specs.Rotation.Laws.{Axes, axes-of, of-axes, turns-all, vectAt}
+use Rattle.exact.specs.Rotation.Laws.{axes-of, of-axes, turns-all, vectAt}
 
 -- ---- the columns of (z, w, 0)
 module _ (O : Ops) where
@@ -185,7 +186,26 @@ module _ (k n : ℕ) (z w : Ω) where
 
   module _ (m : Three (Vect ℤ)) (e : ℕ) (h : RotationOf (entries (with-n k n z w)) (record { m = m; e = e })) where
     pub quarter-more : RotationOf (entries (with-n k (n + 2) z w)) (record { m = quarter ints m; e = e })
-    quarter-more = rw (s-more) (subst (λ f. RotationOf (entries (with-n k n z w) · letter S) (record { m = quarter ints m; e = f })) (add-zero e) (by-quarter m h))
+    quarter-more =
+        rw s-more
+        (subst (λ f. RotationOf (entries (with-n k n z w) · letter S) (record { m = quarter ints m; e = f })) (add-zero e) (by-quarter m h))
 
     pub eighth-more : RotationOf (entries (with-n k (n + 1) z w)) (record { m = eighth ints m; e = e + 1 })
-    eighth-more = rw (t-more) (by-eighth m h)
+    eighth-more = rw t-more (by-eighth m h)
+
+-- ---- so every triple has one: the entries are real, numbers of ℤ[root two] over a power of root two
+pub record HasRotation (u : Matrix) : Type 0 where
+  pub rotation : Rotation
+  pub is : RotationOf u rotation
+
+pub has-rotation : (k n : ℕ) (z w : Ω) → HasRotation (entries (with-n k n z w))
+has-rotation k zero z w = record { rotation = record { m = columns ints z w; e = k + k }; is = columns-rotation k z w }
+has-rotation k (suc n) z w =
+    let h = has-rotation k n z w in
+    let r = h .rotation in
+    record {
+      rotation = record { m = eighth ints (r .m); e = r .e + 1 };
+      is =
+          subst (λ i. RotationOf (entries (with-n k i z w)) (record { m = eighth ints (r .m); e = r .e + 1 })) (add-one n)
+          (eighth-more k n z w (r .m) (r .e) (h .is));
+    }

@@ -1,5 +1,4 @@
 -- `Rotation::over` meets its contract, column by column.
-use mathlib.Core.Path.{refl}
 use Rattle.rotation.specs.Shared.{lowered}
 use borrow.Author.Needs.{needs}
 use Rattle.rotation.proofs.Rotation.over.Statement.{statement}

@@ -93,8 +93,14 @@ add-t9 c = search (fits₁ (2 ^ 30) (arg 2 ∗ arg 3 ∸ arg 0 ∗ arg 1 ∔ arg
 returns : tie.Need-returns
 returns c =
     record {
-      re-is = root-path (search (is₁ (2 ^ 30) (arg 3 ∗ arg 3 ∸ arg 1 ∗ arg 1 ∸ arg 0 ∗ arg 2 ∸ arg 0 ∗ arg 2) tt)) (search (is₁ (2 ^ 30) (arg 2 ∗ arg 3 ∸ arg 0 ∗ arg 1 ∸ arg 0 ∗ arg 3 ∸ arg 1 ∗ arg 2) tt));
-      im-is = root-path (search (is₁ (2 ^ 30) (arg 2 ∗ arg 2 ∸ arg 0 ∗ arg 0 ∔ arg 1 ∗ arg 3 ∔ arg 1 ∗ arg 3) tt)) (search (is₁ (2 ^ 30) (arg 2 ∗ arg 3 ∸ arg 0 ∗ arg 1 ∔ arg 0 ∗ arg 3 ∔ arg 1 ∗ arg 2) tt));
+      re-is =
+          root-path
+          (search (is₁ (2 ^ 30) (arg 3 ∗ arg 3 ∸ arg 1 ∗ arg 1 ∸ arg 0 ∗ arg 2 ∸ arg 0 ∗ arg 2) tt))
+          (search (is₁ (2 ^ 30) (arg 2 ∗ arg 3 ∸ arg 0 ∗ arg 1 ∸ arg 0 ∗ arg 3 ∸ arg 1 ∗ arg 2) tt));
+      im-is =
+          root-path
+          (search (is₁ (2 ^ 30) (arg 2 ∗ arg 2 ∸ arg 0 ∗ arg 0 ∔ arg 1 ∗ arg 3 ∔ arg 1 ∗ arg 3) tt))
+          (search (is₁ (2 ^ 30) (arg 2 ∗ arg 3 ∸ arg 0 ∗ arg 1 ∔ arg 0 ∗ arg 3 ∔ arg 1 ∗ arg 2) tt));
     }
 
 pub square-spec : {M : Type 1} → statement M
