@@ -1,8 +1,8 @@
 // The T count and the rotation on either side of each limit: a line for both refusals, the count and the exponent, then the nine entries row by row,
 // p,q for p + q·root two; compared with stdout.
 use ring::ZOmega;
+use root_two::Root;
 use rotation::Rotation;
-use rotation::root::Root;
 use shown::number;
 use shown::signed;
 use shown::text;

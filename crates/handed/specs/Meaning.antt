@@ -13,7 +13,7 @@ use Rattle.clifford.specs.declared.Coset.{Coset}
 use Rattle.synthesis_of_clifford_t.specs.declared.Synthesis.{Synthesis}
 use Rattle.qasm.specs.declared.Written.{Written as Converted}
 use Rattle.view.specs.declared.matrix.View.{View}
-use Rattle.rotation.specs.declared.root.Root.{Root}
+use Rattle.root_two.specs.declared.Root.{Root}
 use Rattle.rotation.specs.declared.Rotation.{Rotation}
 use Rattle.handed.specs.declared.Four.{Four}
 

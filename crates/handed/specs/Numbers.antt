@@ -10,7 +10,7 @@ use mir.Facts.{toZ-pos, toZ-ofZ}
 use Rattle.exact.specs.Whole.Machine.{held}
 use Rattle.exact.specs.Whole.Size.{sfits-abs}
 use Rattle.ring.specs.declared.ZOmega.{ZOmega}
-use Rattle.rotation.specs.declared.root.Root.{Root}
+use Rattle.root_two.specs.declared.Root.{Root}
 
 -- ---- a byte as a signed number
 pub record Wide (x : ℕ) (r : ℤ) : Type 0 where

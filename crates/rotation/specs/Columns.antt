@@ -12,12 +12,12 @@ use mir.Val.{SFits}
 use Rattle.exact.specs.Meaning.Number.{Ω, ints, Sized, mulQ, conjQ}
 use Rattle.exact.specs.Meaning.Triple.{squares, crosses, Unitary}
 use Rattle.exact.specs.Meaning.Rotation as Exact
-use Rattle.exact.specs.Meaning.Rotation.{addR, negR}
+use Rattle.exact.specs.Meaning.Rotation.{addR}
 use Rattle.exact.specs.Whole.Machine.{held}
 use Rattle.exact.specs.Whole.Size.{natAbs-neg, bound, Within, abs-by}
 use Rattle.exact.specs.Algebra.Solver.{Expr, exprs, eval, at}
 use Rattle.exact.specs.Algebra.Omega.{X₀, X₁, parts}
-use Rattle.exact.specs.Algebra.RootTwo.{root-path}
+use Rattle.exact.specs.Algebra.RootTwo.{negR, root-path}
 use Rattle.exact.specs.Matrices.Sizes.{sized-le, z-sized, w-sized, squares-size, crosses-size}
 use Rattle.exact.specs.Rotation.Vectors.{vect-path}
 use Rattle.exact.specs.Rotation.Sizes.{Up, UpC, up-le, up-neg, up-of-neg}
@@ -26,11 +26,12 @@ use Rattle.exact.specs.Rotation.Few.{columns-up}
 use Rattle.ring.specs.Meaning.{quad}
 use Rattle.ring.specs.Number.{Small}
 use Rattle.ring.specs.declared.ZOmega.{ZOmega}
-use Rattle.rotation.specs.Meaning.{root, vect, rotationOf}
-use Rattle.rotation.specs.declared.root.Root.{Root}
-use Rattle.rotation.specs.declared.root.Vect.{Vect}
+use Rattle.root_two.specs.Meaning.{root, vect}
+use Rattle.rotation.specs.Meaning.{rotationOf}
+use Rattle.root_two.specs.declared.Root.{Root}
+use Rattle.root_two.specs.declared.Vect.{Vect}
 use Rattle.rotation.specs.declared.columns.Parts.{Parts}
-use Rattle.rotation.specs.Code.{Addable, Subtractable, sum-fits, sum-held, difference-fits, difference-held}
+use Rattle.root_two.specs.Code.{Addable, Subtractable, sum-fits, sum-held, difference-fits, difference-held}
 
 -- a real and an imaginary part
 pub record HasParts (re im : Exact.Root ℤ) (r : Parts) : Type 0 where

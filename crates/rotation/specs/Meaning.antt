@@ -13,19 +13,13 @@ use Rattle.exact.specs.Meaning.Refusals.{checks}
 use Rattle.ring.specs.Meaning.{quad}
 use Rattle.ring.specs.declared.ZOmega.{ZOmega}
 use Rattle.unitary.specs.Meaning.{given}
-use Rattle.rotation.specs.declared.root.Root.{Root}
-use Rattle.rotation.specs.declared.root.Vect.{Vect}
+use Rattle.root_two.specs.Meaning.{vect}
+use Rattle.root_two.specs.declared.Vect.{Vect}
 use Rattle.rotation.specs.declared.Rotation.{Rotation}
 use Rattle.rotation.specs.declared.Answer.{Answer}
 use Rattle.rotation.specs.declared.Count.{Count}
 
 -- ---- a machine's rotation as the exact one
-abbrev pub root : Root → Exact.Root ℤ
-root r = record { p = r .p; q = r .q }
-
-abbrev pub vect : Vect → Exact.Vect ℤ
-vect v = record { x = root (v .x); y = root (v .y); z = root (v .z) }
-
 abbrev pub axesOf : Rotation → Three (Exact.Vect ℤ)
 axesOf r = record { x = vect (r .x); y = vect (r .y); z = vect (r .z) }
 

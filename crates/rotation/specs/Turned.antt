@@ -13,8 +13,9 @@ use Rattle.exact.specs.Rotation.Worked.{with-n, columns, columns-rotation, negV
 use Rattle.exact.specs.Rotation.Few.{columns-up}
 use Rattle.ring.specs.Meaning.{quad}
 use Rattle.ring.specs.declared.ZOmega.{ZOmega}
-use Rattle.rotation.specs.Meaning.{vect, axesOf, rotationOf}
-use Rattle.rotation.specs.declared.root.Vect as Machine
+use Rattle.root_two.specs.Meaning.{vect}
+use Rattle.rotation.specs.Meaning.{axesOf, rotationOf}
+use Rattle.root_two.specs.declared.Vect as Machine
 use Rattle.rotation.specs.declared.Rotation as Declared
 
 -- so many quarters

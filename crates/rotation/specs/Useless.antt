@@ -22,7 +22,7 @@ use Rattle.exact.specs.Rotation.Least.{normal-least}
 use Rattle.ring.specs.Meaning.{quad}
 use Rattle.ring.specs.declared.ZOmega.{ZOmega}
 use Rattle.unitary.specs.Meaning.{given}
-use Rattle.rotation.specs.declared.root.Vect.{Vect}
+use Rattle.root_two.specs.declared.Vect.{Vect}
 use Rattle.rotation.specs.declared.Rotation.{Rotation}
 use Rattle.rotation.specs.declared.Answer.{Answer}
 use Rattle.rotation.specs.declared.Count.{Count}

@@ -4,12 +4,13 @@ ghost use Prim.Native.Nat.{_+_, _^_, _≤_};
 ghost use Rattle.exact.specs.Meaning.Number.{Sized, ints};
 ghost use Rattle.exact.specs.Rotation.Worked.{squareRe, squareIm, twiceRe, twiceIm, norms, columns};
 ghost use Rattle.ring.specs.Meaning.{quad};
-ghost use Rattle.rotation.specs.Meaning.{root, vect, rotationOf};
+ghost use Rattle.root_two.specs.Meaning.{root, vect};
+ghost use Rattle.rotation.specs.Meaning.{rotationOf};
 ghost use Rattle.rotation.specs.Columns.{HasParts, Twiced, Normed, Held};
 use crate::Rotation;
-use crate::root::Root;
-use crate::root::Vect;
 use ring::ZOmega;
+use root_two::Root;
+use root_two::Vect;
 
 // Real and imaginary part.
 struct Parts {

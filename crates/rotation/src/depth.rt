@@ -5,7 +5,7 @@ ghost use Rattle.exact.specs.Rotation.Least.{Divides, Deepest};
 ghost use Rattle.rotation.specs.Meaning.{axesOf};
 ghost use Rattle.rotation.specs.Shared.{TwosIn, NineP, NineQ, Lowered};
 use crate::Rotation;
-use crate::root::common;
+use root_two::common;
 
 // How often 2 divides it, and 64 for 0, which any power divides.
 fn twos(x: i64) -> u8

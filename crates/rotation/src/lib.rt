@@ -8,12 +8,11 @@ ghost use Rattle.rotation.specs.Meaning.{none, RotationOutcome, CountOut
 ghost use Rattle.rotation.specs.Turned.{WorkedOut};
 use columns::columns;
 use ring::ZOmega;
-use root::Root;
-use root::Vect;
+use root_two::Root;
+use root_two::Vect;
 
 mod columns;
 mod depth;
-pub mod root;
 mod turn;
 
 // What X, Y and Z become, the columns, each over root two to the e.

@@ -6,7 +6,7 @@ use native.Mathlib.Omega.{arith}
 use lib.Dec.{T}
 use lib.IntN.{ℤ, pos, negℤ}
 use Rattle.exact.specs.Meaning.Number.{Ops, ints, addQ, mulQ, conjQ, root2, Ω}
-use Rattle.exact.specs.Meaning.Rotation.{Root, constR, addR, negR, mulR, timesR, rootTwos, ofRoot}
+use Rattle.exact.specs.Meaning.Rotation.{Root, constR, addR, mulR, timesR, ofRoot}
 use Rattle.exact.specs.Whole.Linear.{int, negation}
 use Rattle.exact.specs.Whole.Parity.{halved}
 use Rattle.exact.specs.Algebra.Ring.{Laws, ints-laws}
@@ -15,6 +15,14 @@ use Rattle.exact.specs.Algebra.Omega.{quad-path, solveQ}
 
 pub root-path : {A : Type 0} {x y : Root A} → x .p ≡ y .p → x .q ≡ y .q → x ≡ y
 root-path h k = λ i. record { p = h i; q = k i }
+
+-- ---- a ring
+module _ (O : Ops) where
+  abbrev pub negR : Root (O .Car) → Root (O .Car)
+  negR x = record { p = O .neg (x .p); q = O .neg (x .q) }
+
+  abbrev pub rootTwos : Ops
+  rootTwos = record { Car = Root (O .Car); add = addR O; mul = mulR O; neg = negR; const = constR O }
 
 -- ---- the solver, at each of the two parts
 abbrev R₀ : Root Expr

@@ -23,18 +23,12 @@ module _ (O : Ops) where
   abbrev pub addR : Root Car → Root Car → Root Car
   addR x y = record { p = x .p +′ y .p; q = x .q +′ y .q }
 
-  abbrev pub negR : Root Car → Root Car
-  negR x = record { p = neg (x .p); q = neg (x .q) }
-
   abbrev pub mulR : Root Car → Root Car → Root Car
   mulR x y = record { p = x .p *′ y .p +′ (x .q *′ y .q +′ x .q *′ y .q); q = x .p *′ y .q +′ x .q *′ y .p }
 
   -- root two times
   abbrev pub timesR : Root Car → Root Car
   timesR x = record { p = x .q +′ x .q; q = x .p }
-
-  abbrev pub rootTwos : Ops
-  rootTwos = record { Car = Root Car; add = addR; mul = mulR; neg = negR; const = constR }
 
   -- as a ring number, root two being omega - omega³
   abbrev pub ofRoot : Root Car → Quad Car

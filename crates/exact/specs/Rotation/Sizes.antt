@@ -5,8 +5,9 @@ use native.Mathlib.Nat.{le-trans}
 use native.Mathlib.Omega.{arith}
 use lib.IntN.{ℤ, pos, negsuc, natAbs, _+ℤ_, _*ℤ_}
 use Rattle.exact.specs.Meaning.Number.{ints}
-use Rattle.exact.specs.Meaning.Rotation.{Root, Three, Vect, constR, addR, negR, mulR, Rotation, Orthogonal}
+use Rattle.exact.specs.Meaning.Rotation.{Root, Three, Vect, constR, addR, mulR, Rotation, Orthogonal}
 use Rattle.exact.specs.Whole.Size.{natAbs-neg, natAbs-add}
+use Rattle.exact.specs.Algebra.RootTwo.{negR}
 use Rattle.exact.specs.Algebra.RootPower.{liftR, twos-lift}
 use Rattle.exact.specs.Matrices.Sizes.{root-le, four^}
 use Rattle.exact.specs.Rotation.Vectors.{lift-parts}

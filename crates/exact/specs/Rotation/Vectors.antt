@@ -9,12 +9,12 @@ use lib.IntN.{ℤ, pos, _+ℤ_, _-ℤ_}
 use Rattle.exact.specs.Meaning.Number.{Ops, Quad, ints, omegas, quads, root2, root2^}
 use Rattle.exact.specs.Meaning.Matrix.{Mat, scaleM}
 use Rattle.exact.specs.Meaning.Word.{Letter, I, H, S, X, W, T′}
-use Rattle.exact.specs.Meaning.Rotation.{Vect, addR, negR, timesR, timesV, lift}
+use Rattle.exact.specs.Meaning.Rotation.{Vect, addR, timesR, timesV, lift}
 use Rattle.exact.specs.Whole.Linear.{int, sum, difference}
 use Rattle.exact.specs.Algebra.Ring.{ints-laws}
 use Rattle.exact.specs.Algebra.Solver.{Expr, var, exprs}
 use Rattle.exact.specs.Algebra.Omega.{omegas-laws}
-use Rattle.exact.specs.Algebra.RootTwo.{root-path, timesR-cancel}
+use Rattle.exact.specs.Algebra.RootTwo.{negR, root-path, timesR-cancel}
 use Rattle.exact.specs.Algebra.RootPower.{liftR}
 use Rattle.exact.specs.Matrices.Laws.{passed, solveMQ, scale-scale, scale-one}
 use Rattle.exact.specs.Matrices.Same.{lifted}

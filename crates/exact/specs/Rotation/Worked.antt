@@ -11,12 +11,12 @@ use Rattle.exact.specs.Meaning.Number.{Ops, Quad, Ω, ints, omegas, quad
 use Rattle.exact.specs.Meaning.Matrix.{Mat, mulM, scaleM, starM, Matrix, _·_}
 use Rattle.exact.specs.Meaning.Word.{Letter, S, T′, letterM, letter, tee}
 use Rattle.exact.specs.Meaning.Triple.{Triple, rows, squares, crosses, entries}
-use Rattle.exact.specs.Meaning.Rotation.{Root, Three, Vect, addR, negR, axes, addV, timesV, turnedBy, Rotation, RotationOf}
+use Rattle.exact.specs.Meaning.Rotation.{Root, Three, Vect, addR, axes, addV, timesV, turnedBy, Rotation, RotationOf}
 use Rattle.exact.specs.Algebra.Ring.{ints-laws}
 use Rattle.exact.specs.Algebra.Solver.{Expr, exprs, same}
 use Rattle.exact.specs.Algebra.Omega.{omegas-laws, root2^-add, X₀, X₁, X₂, parts}
 use Rattle.exact.specs.Algebra.OmegaPower.{omega^-add}
-use Rattle.exact.specs.Algebra.RootTwo.{evalR, solveR}
+use Rattle.exact.specs.Algebra.RootTwo.{negR, evalR, solveR}
 use Rattle.exact.specs.Matrices.Laws.{passed, solveMQ, scale-scale}
 use Rattle.exact.specs.Matrices.Same.{matrix-path, lifted}
 use Rattle.exact.specs.Matrices.Star.{sand}
