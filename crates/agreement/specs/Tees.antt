@@ -8,12 +8,12 @@ use lib.IntN.{ℤ, pos}
 use lib.ListN.{length, getD}
 use Rattle.exact.specs.Meaning.Matrix.{Matrix}
 use Rattle.exact.specs.Meaning.Limits.{enough, Accepted}
-use Rattle.exact.specs.Meaning.Outcome.{Refusals, none, _then_, _also_, Rung, Outcome}
+use Rattle.exact.specs.Meaning.Outcome.{none, _then_, Rung, Outcome}
 use Rattle.exact.specs.Meaning.Lent.{Lent, untouched, Writes}
 use Rattle.exact.specs.Meaning.Refusals.{checks, room}
 use Rattle.exact.specs.Cases.Letters.{bytes-length}
 use Rattle.exact.specs.Matrices.Same.{Same-sym}
-use Rattle.exact.specs.Outcomes.Ladder.{Passed, NoneGives, pass, carry}
+use Rattle.exact.specs.Outcomes.Ladder.{Passed, through, pass, carry}
 use Rattle.exact.specs.Outcomes.Checked.{checks-taken}
 use Rattle.exact.specs.Rotation.Laws.{wordRotation, rotation-word, rotation-moved}
 use Rattle.exact.specs.Rotation.Least.{normal-least}
@@ -23,21 +23,13 @@ use Rattle.synthesis_of_clifford_t.specs.declared.Synthesis.{Synthesis}
 use Rattle.synthesis_of_clifford_t.specs.Meaning.{text, refused, counts, SpellingOf, asked, SynthesiseOutcome}
 use Rattle.synthesis_of_clifford_t.specs.Enough.{answer-short}
 use Rattle.rotation.specs.declared.Count.{Count}
-use Rattle.rotation.specs.Meaning.{refusedCount, Counts, CountOutcome}
+use Rattle.rotation.specs.Meaning.{refusedCount, AnswersCount, CountOutcome}
 use Rattle.rotation.specs.Unique.{count-unique}
 use Rattle.rotation.specs.Answers.{exponent-is}
 use Rattle.handed.specs.Meaning.{zOf, wOf, countsOf}
 use Rattle.dunrossel.specs.Meaning.Exports as Exports
 use Rattle.dunrossel.specs.Meaning.Exports.{Synthesises, Rotates}
 use Rattle.agreement.specs.Meaning.Exports.{Wrote}
-
--- where none of the refusals gives what was handed back, they are passed, and what comes behind them stands alone
-module _ {R : Type 0} (refused : ℕ → ℕ → R) (Answer : R → Type 0) (P : R → Type 0) where
-  through : (fs gs : Refusals) → NoneGives refused Answer P fs → (r : R) → P r → Outcome refused Answer (fs also gs) r
-      → Passed fs × Outcome refused Answer gs r
-  through none gs h r a x = (tt, x)
-  through (f then fs) gs h r a (Rung.given p k e) = absurd (h .0 p (subst P e a))
-  through (f then fs) gs h r a (Rung.passed n x) = let s = through fs gs (h .1) r a x in ((n, s .0), s .1)
 
 -- ---- over the jobs: what job 4 hands back is what the T count must
 module _ (k : ℤ) (n : ℕ) (z w : ZOmega) (old : List ℕ) where
@@ -50,22 +42,22 @@ module _ (k : ℤ) (n : ℕ) (z w : ZOmega) (old : List ℕ) where
   abbrev countOf : Lent Synthesis → Count
   countOf j = record { refusal = j .handed .refusal; tees = j .handed .tees }
 
-  written-counts : (j : Lent Synthesis) → Writes text counts (SpellingOf matrix) old j → Counts matrix (countOf j)
+  written-counts : (j : Lent Synthesis) → Writes text counts (SpellingOf matrix) old j → AnswersCount matrix (countOf j)
   written-counts j y =
       let u = y .v .letters in
       let a = y .answer .normal in
       let is = rotation-moved (Same-sym (a .same)) (rotation-word u) in
-      subst (Counts matrix) (ap countOf (sym (y .is)))
+      subst (AnswersCount matrix) (ap countOf (sym (y .is)))
       (record { taken = refl; rotation = wordRotation u; is = is; least = normal-least (a .normal) (rotation-word u) })
 
   pub synthesised-counts : enough ≤ length old → (j : Lent Synthesis) → Job4 j → CountOutcome k n z w (countOf j)
   synthesised-counts l =
-      carry (untouched refused old) (Writes text counts (SpellingOf matrix) old) refusedCount (Counts matrix) countOf (λ m p. refl)
+      carry (untouched refused old) (Writes text counts (SpellingOf matrix) old) refusedCount (AnswersCount matrix) countOf (λ m p. refl)
       (checks k (quad z) (quad w)) (room text (SpellingOf matrix) old then none) none behind
     where
       behind : (j : Lent Synthesis) → Passed (checks k (quad z) (quad w))
           → Outcome (untouched refused old) (Writes text counts (SpellingOf matrix) old) (room text (SpellingOf matrix) old then none) j
-          → Counts matrix (countOf j)
+          → AnswersCount matrix (countOf j)
       behind j h (Rung.given p t e) =
           absurd
           (omega (
@@ -82,10 +74,10 @@ module _ (k : ℤ) (n : ℕ) (z w : ZOmega) (old : List ℕ) where
       through (untouched refused old) (Writes text counts (SpellingOf matrix) old) (λ (i : Lent Synthesis). i .handed .refusal ≡ Accepted)
       (checks k (quad z) (quad w)) (room text (SpellingOf matrix) old then none)
       ((λ p h. omega arith), ((λ p h. omega arith), ((λ p h. omega arith), tt))) j e o in
-      pass refusedCount (Counts matrix) (checks k (quad z) (quad w)) none (s .0) (countOf j) (behind (s .1))
+      pass refusedCount (AnswersCount matrix) (checks k (quad z) (quad w)) none (s .0) (countOf j) (behind (s .1))
     where
       behind : Outcome (untouched refused old) (Writes text counts (SpellingOf matrix) old) (room text (SpellingOf matrix) old then none) j
-          → Counts matrix (countOf j)
+          → AnswersCount matrix (countOf j)
       behind (Rung.given p t f) = absurd (omega (arith, e, ap (λ (i : Lent Synthesis). i .handed .refusal) f))
       behind (Rung.passed f y) = written-counts j y
 

@@ -1,5 +1,4 @@
--- What a machine's sums, negatives and shifts of p and q need and give: arguments 0 and 1 are those of the first number, 2 and 3 those of the second.
--- Assumes nothing.
+-- What a machine's sums, differences, negatives and shifts of p and q need and give. Assumes nothing.
 use mathlib.Core.Path.{_≡_, _∙_, ap, ap₂}
 use Prim.Native.Nat.{ℕ, _+_, _%_, _/_, _^_, _≤_}
 use native.Mathlib.Numerals.{add-one}

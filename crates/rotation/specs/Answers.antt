@@ -15,7 +15,7 @@ use Rattle.exact.specs.Meaning.Outcome.{none}
 use Rattle.exact.specs.Meaning.Refusals.{checks}
 use Rattle.exact.specs.Matrices.Same.{Same-sym}
 use Rattle.exact.specs.Matrices.Triples.{unitary-isometry, unitary-same}
-use Rattle.exact.specs.Outcomes.Ladder.{Passed, accepted, always, carry}
+use Rattle.exact.specs.Outcomes.Ladder.{Passed, accepted, through, always, carry}
 use Rattle.exact.specs.Outcomes.Checked.{checks-taken}
 use Rattle.exact.specs.Rotation.Laws.{rotation-same, rotation-mul, rotation-phase, rotation-moved, one-rotation}
 use Rattle.exact.specs.Rotation.Orthogonal.{orthogonal}
@@ -28,7 +28,7 @@ use Rattle.unitary.specs.Meaning.{given}
 use Rattle.unitary.specs.Checks.{exponent-size}
 use Rattle.rotation.specs.declared.Answer.{Answer}
 use Rattle.rotation.specs.declared.Count.{Count}
-use Rattle.rotation.specs.Meaning.{axesOf, rotationOf, refused, Turns, RotationOutcome, refusedCount, Counts, CountOutcome}
+use Rattle.rotation.specs.Meaning.{axesOf, rotationOf, refused, AnswersRotation, RotationOutcome, refusedCount, AnswersCount, CountOutcome}
 use Rattle.rotation.specs.Unique.{count-unique}
 
 module _ (k : ℤ) (n : ℕ) (z w : ZOmega) where
@@ -37,24 +37,24 @@ module _ (k : ℤ) (n : ℕ) (z w : ZOmega) where
 
   -- ---- accepted, it is an answer
   module _ (c : Count) (o : CountOutcome k n z w c) (e : c .refusal ≡ Accepted) where
-    pub counted : Counts asked c
+    pub counted : AnswersCount asked c
     counted =
-        accepted refusedCount (Counts asked) (λ (j : Count). j .refusal ≡ Accepted) (checks k (quad z) (quad w))
+        accepted refusedCount (AnswersCount asked) (λ (j : Count). j .refusal ≡ Accepted) (checks k (quad z) (quad w))
         ((λ p h. omega arith), ((λ p h. omega arith), ((λ p h. omega arith), tt))) c e o
 
     pub none-cheaper : (u : List Letter) → Same asked (word u) → c .tees ≤ tees u
     none-cheaper u h = none-fewer u h (counted .is) (counted .least)
 
   module _ (a : Answer) (o : RotationOutcome k n z w a) (e : a .refusal ≡ Accepted) where
-    pub turned : Turns asked a
+    pub turned : AnswersRotation asked a
     turned =
-        accepted refused (Turns asked) (λ (j : Answer). j .refusal ≡ Accepted) (checks k (quad z) (quad w))
+        accepted refused (AnswersRotation asked) (λ (j : Answer). j .refusal ≡ Accepted) (checks k (quad z) (quad w))
         ((λ p h. omega arith), ((λ p h. omega arith), ((λ p h. omega arith), tt))) a e o
 
   -- ---- what the rotation hands back is what the T count must
   pub exponent-counts : (a : Answer) → RotationOutcome k n z w a → CountOutcome k n z w (record { refusal = a .refusal; tees = a .rotation .e })
   exponent-counts =
-      carry refused (Turns asked) refusedCount (Counts asked) (λ (j : Answer). record { refusal = j .refusal; tees = j .rotation .e }) (λ m p. refl)
+      carry refused (AnswersRotation asked) refusedCount (AnswersCount asked) (λ (j : Answer). record { refusal = j .refusal; tees = j .rotation .e }) (λ m p. refl)
       (checks k (quad z) (quad w)) none none
       (λ r h t. record { taken = t .taken; rotation = rotationOf (r .rotation); is = t .is; least = t .least })
 
@@ -65,9 +65,9 @@ module _ (k : ℤ) (n : ℕ) (z w : ZOmega) where
   -- ---- how many at most
   module _ (c : Count) (o : CountOutcome k n z w c) where
     each : (P : Count → Type 0) → ((m p : ℕ) → P (refusedCount m p))
-        → (Passed (checks k (quad z) (quad w)) → (j : Count) → Counts asked j → P j)
+        → (Passed (checks k (quad z) (quad w)) → (j : Count) → AnswersCount asked j → P j)
         → P c
-    each P f g = always refusedCount (Counts asked) P f (checks k (quad z) (quad w)) g c o
+    each P f g = always refusedCount (AnswersCount asked) P f (checks k (quad z) (quad w)) g c o
 
     there : Passed (checks k (quad z) (quad w)) → Unitary (given k n z w)
     there h = checks-taken k (quad z) (quad w) h .unitary-there n
@@ -92,7 +92,7 @@ module _ (k : ℤ) (n : ℕ) (z w : ZOmega) where
         each (λ j. j .tees ≤ deepest + deepest) (λ m p. omega arith)
         (λ h j x. most (exponent-size k (checks-taken k (quad z) (quad w) h .exponent-in)) (there h) j x)
       where
-        most : natAbs k ≤ deepest → Unitary (given k n z w) → (j : Count) → Counts asked j → j .tees ≤ deepest + deepest
+        most : natAbs k ≤ deepest → Unitary (given k n z w) → (j : Count) → AnswersCount asked j → j .tees ≤ deepest + deepest
         most l u j x = go (natAbs k) refl
           where
             go : (m : ℕ) → natAbs k ≡ m → j .tees ≤ deepest + deepest
@@ -100,10 +100,14 @@ module _ (k : ℤ) (n : ℕ) (z w : ZOmega) where
             go (suc m) e = omega (arith, least-under (given k n z w) u (x .is) (x .least) (omega (arith, e)))
 
 -- ---- what the rotation keeps
-module _ (k : ℤ) (n : ℕ) (z w : ZOmega) (a : Answer) (o : RotationOutcome k n z w a) (e : a .refusal ≡ Accepted)
-    (u : Unitary (given k n z w)) where
+module _ (k : ℤ) (n : ℕ) (z w : ZOmega) (a : Answer) (o : RotationOutcome k n z w a) (e : a .refusal ≡ Accepted) where
+  taken : Passed (checks k (quad z) (quad w))
+  taken =
+      through refused (AnswersRotation (entries (given k n z w))) (λ (j : Answer). j .refusal ≡ Accepted) (checks k (quad z) (quad w)) none
+      ((λ p h. omega arith), ((λ p h. omega arith), ((λ p h. omega arith), tt))) a e o .0
+
   pub answer-orthogonal : Orthogonal (rotationOf (a .rotation))
-  answer-orthogonal = orthogonal (unitary-isometry u) (turned k n z w a o e .is)
+  answer-orthogonal = orthogonal (unitary-isometry (checks-taken k (quad z) (quad w) taken .unitary-there n)) (turned k n z w a o e .is)
 
   -- p² + 2q² is at most 2^e in every entry
   pub answer-short : Shorts (2 ^ a .rotation .e) (axesOf (a .rotation))

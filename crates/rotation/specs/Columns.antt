@@ -175,9 +175,6 @@ module _ (z w : ZOmega) (h : Held (quad z) (quad w)) where
   pub z-small : Small z
   z-small = record { sized = sized-le (omega arith) (h .z-in) }
 
-  pub normed : Normed (quad z) (quad w)
-  normed = record { z-sized = h .z-in; w-sized = h .w-in; up = high (h .up .z-up .z-up) }
-
   pub straight-twiced : (m : ZOmega) → quad m ≡ mulQ ints (quad z) (quad w) → Twiced (quad m)
   straight-twiced m e =
       rw e
@@ -208,17 +205,58 @@ module _ (z w : ZOmega) (h : Held (quad z) (quad w)) where
         })
 
 -- ---- the squares s of z and t of w, and m, twice the product
+-- what X becomes, and what it needs; and so for Y
+abbrev pub xOf : Parts → Parts → Parts → Exact.Vect ℤ
+xOf s t m = record {
+  x = subR ints (root (s .re)) (root (t .re));
+  y = subR ints (negR ints (root (s .im))) (root (t .im));
+  z = negR ints (root (m .re));
+}
+
+abbrev pub yOf : Parts → Parts → Parts → Exact.Vect ℤ
+yOf s t m = record {
+  x = subR ints (root (s .im)) (root (t .im));
+  y = addR ints (root (s .re)) (root (t .re));
+  z = negR ints (root (m .im));
+}
+
+pub record XFits (s t m : Parts) : Type 0 where
+  pub x-fits : Subtractable (root (s .re)) (root (t .re))
+  pub im-up : Up (2 ^ 62) (root (s .im))
+  pub y-fits : Subtractable (negR ints (root (s .im))) (root (t .im))
+  pub z-up : Up (2 ^ 62) (root (m .re))
+
+pub record YFits (s t m : Parts) : Type 0 where
+  pub x-fits : Subtractable (root (s .im)) (root (t .im))
+  pub y-fits : Addable (root (s .re)) (root (t .re))
+  pub z-up : Up (2 ^ 62) (root (m .im))
+
+-- where the negative is another name
+pub minus-fits : (x n y : Root) → root n ≡ negR ints (root x) → Subtractable (negR ints (root x)) (root y) → Subtractable (root n) (root y)
+minus-fits x n y e h = rw e h
+
+pub x-made : (s t m : Parts) (n a b c : Root) → root n ≡ negR ints (root (s .im)) → root a ≡ subR ints (root (s .re)) (root (t .re))
+    → root b ≡ subR ints (root n) (root (t .im)) → root c ≡ negR ints (root (m .re))
+    → vect (record { x = a; y = b; z = c }) ≡ xOf s t m
+x-made s t m n a b c n-is a-is b-is c-is = vect-path a-is (b-is ∙ ap (λ y. subR ints y (root (t .im))) n-is) c-is
+
+pub y-made : (s t m : Parts) (a b c : Root) → root a ≡ subR ints (root (s .im)) (root (t .im)) → root b ≡ addR ints (root (s .re)) (root (t .re))
+    → root c ≡ negR ints (root (m .im))
+    → vect (record { x = a; y = b; z = c }) ≡ yOf s t m
+y-made s t m a b c = vect-path
+
 abbrev Squared : ZOmega → Parts → Type 0
 Squared x s = HasParts (squareRe ints (quad x)) (squareIm ints (quad x)) s
 
 abbrev Doubled : ZOmega → Parts → Type 0
 Doubled x m = HasParts (twiceRe ints (quad x)) (twiceIm ints (quad x)) m
 
-module _ (z w : ZOmega) (h : Held (quad z) (quad w)) (s t : Parts) (s-is : Squared z s) (t-is : Squared w t) where
+module _ (z w : ZOmega) (h : Held (quad z) (quad w)) (s t : Parts) (s-is : Squared z s) (t-is : Squared w t)
+    (x : ZOmega) (m : Parts) (x-is : quad x ≡ mulQ ints (quad z) (quad w)) (m-is : Doubled x m) where
   s-re : Up (2 ^ 62) (root (s .re))
   s-re = rw (s-is .re-is) (square-re z (h .z-in))
 
-  pub s-im : Up (2 ^ 62) (root (s .im))
+  s-im : Up (2 ^ 62) (root (s .im))
   s-im = rw (s-is .im-is) (square-im z (h .z-in))
 
   t-re : Up (2 ^ 62) (root (t .re))
@@ -227,44 +265,41 @@ module _ (z w : ZOmega) (h : Held (quad z) (quad w)) (s t : Parts) (s-is : Squar
   t-im : Up (2 ^ 62) (root (t .im))
   t-im = rw (t-is .im-is) (square-im w (h .w-in))
 
-  pub xx-sub : Subtractable (root (s .re)) (root (t .re))
-  xx-sub = record { left = s-re; right = t-re; rest = rw (s-is .re-is, t-is .re-is) (high (h .up .x-up .x-up)) }
+  pub x-fit : XFits s t m
+  x-fit =
+      record {
+        x-fits = record { left = s-re; right = t-re; rest = rw (s-is .re-is, t-is .re-is) (high (h .up .x-up .x-up)) };
+        im-up = s-im;
+        y-fits = record { left = up-neg s-im; right = t-im; rest = rw (s-is .im-is, t-is .im-is) (high (h .up .x-up .y-up)) };
+        z-up = rw (m-is .re-is) (straight-twiced z w h x x-is .re-up);
+      }
 
-  pub yx-sub : Subtractable (root (s .im)) (root (t .im))
-  yx-sub = record { left = s-im; right = t-im; rest = rw (s-is .im-is, t-is .im-is) (high (h .up .y-up .x-up)) }
+  pub y-fit : YFits s t m
+  y-fit =
+      record {
+        x-fits = record { left = s-im; right = t-im; rest = rw (s-is .im-is, t-is .im-is) (high (h .up .y-up .x-up)) };
+        y-fits = record { left = s-re; right = t-re; total = rw (s-is .re-is, t-is .re-is) (high (h .up .y-up .y-up)) };
+        z-up = rw (m-is .im-is) (straight-twiced z w h x x-is .im-up);
+      }
 
-  pub yy-add : Addable (root (s .re)) (root (t .re))
-  yy-add = record { left = s-re; right = t-re; total = rw (s-is .re-is, t-is .re-is) (high (h .up .y-up .y-up)) }
+  -- all three
+  x-is-x : xOf s t m ≡ columns ints (quad z) (quad w) .x
+  x-is-x =
+      vect-path
+      (ap₂ (subR ints) (s-is .re-is) (t-is .re-is))
+      (ap₂ (λ a b. subR ints (negR ints a) b) (s-is .im-is) (t-is .im-is))
+      (ap (negR ints) (m-is .re-is ∙ ap (twiceRe ints) x-is))
 
-  module _ (n : Root) (n-is : root n ≡ negR ints (root (s .im))) where
-    pub xy-sub : Subtractable (root n) (root (t .im))
-    xy-sub = record { left = rw n-is (up-neg s-im); right = t-im; rest = rw (n-is, s-is .im-is, t-is .im-is) (high (h .up .x-up .y-up)) }
+  y-is-y : yOf s t m ≡ columns ints (quad z) (quad w) .y
+  y-is-y =
+      vect-path
+      (ap₂ (subR ints) (s-is .im-is) (t-is .im-is))
+      (ap₂ (addR ints) (s-is .re-is) (t-is .re-is))
+      (ap (negR ints) (m-is .im-is ∙ ap (twiceIm ints) x-is))
 
-  module _ (x : ZOmega) (m : Parts) (x-is : quad x ≡ mulQ ints (quad z) (quad w)) (m-is : Doubled x m) where
-    pub m-re : Up (2 ^ 62) (root (m .re))
-    m-re = rw (m-is .re-is) (straight-twiced z w h x x-is .re-up)
-
-    pub m-im : Up (2 ^ 62) (root (m .im))
-    m-im = rw (m-is .im-is) (straight-twiced z w h x x-is .im-up)
-
-    -- what they come to
-    pub x-made : (n a b c : Root) → root n ≡ negR ints (root (s .im)) → root a ≡ subR ints (root (s .re)) (root (t .re))
-        → root b ≡ subR ints (root n) (root (t .im)) → root c ≡ negR ints (root (m .re))
-        → vect (record { x = a; y = b; z = c }) ≡ columns ints (quad z) (quad w) .x
-    x-made n a b c n-is a-is b-is c-is =
-        vect-path
-        (a-is ∙ ap₂ (subR ints) (s-is .re-is) (t-is .re-is))
-        (b-is ∙ ap₂ (subR ints) (n-is ∙ ap (negR ints) (s-is .im-is)) (t-is .im-is))
-        (c-is ∙ ap (negR ints) (m-is .re-is ∙ ap (twiceRe ints) x-is))
-
-    pub y-made : (a b c : Root) → root a ≡ subR ints (root (s .im)) (root (t .im)) → root b ≡ addR ints (root (s .re)) (root (t .re))
-        → root c ≡ negR ints (root (m .im))
-        → vect (record { x = a; y = b; z = c }) ≡ columns ints (quad z) (quad w) .y
-    y-made a b c a-is b-is c-is =
-        vect-path
-        (a-is ∙ ap₂ (subR ints) (s-is .im-is) (t-is .im-is))
-        (b-is ∙ ap₂ (addR ints) (s-is .re-is) (t-is .re-is))
-        (c-is ∙ ap (negR ints) (m-is .im-is ∙ ap (twiceIm ints) x-is))
+  pub columns-made : (k : ℕ) (a b v : Vect) → vect a ≡ xOf s t m → vect b ≡ yOf s t m → vect v ≡ columns ints (quad z) (quad w) .z
+      → rotationOf (record { x = a; y = b; z = v; e = k + k }) ≡ record { m = columns ints (quad z) (quad w); e = k + k }
+  columns-made k a b v a-is b-is v-is = λ i. record { m = record { x = (a-is ∙ x-is-x) i; y = (b-is ∙ y-is-y) i; z = v-is i }; e = k + k }
 
 pub z-made : (z w c x : ZOmega) (m : Parts) (d : Root) → quad c ≡ conjQ ints (quad z) → quad x ≡ mulQ ints (quad c) (quad w) → Doubled x m
     → root d ≡ norms ints (quad z) (quad w)
@@ -272,8 +307,3 @@ pub z-made : (z w c x : ZOmega) (m : Parts) (d : Root) → quad c ≡ conjQ ints
 z-made z w c x m d c-is x-is m-is d-is =
     let crossed = x-is ∙ ap (λ a. mulQ ints a (quad w)) c-is in
     vect-path (m-is .re-is ∙ ap (twiceRe ints) crossed) (m-is .im-is ∙ ap (twiceIm ints) crossed) d-is
-
-pub columns-made : (k : ℕ) (z w : ZOmega) (x y v : Vect) → vect x ≡ columns ints (quad z) (quad w) .x → vect y ≡ columns ints (quad z) (quad w) .y
-    → vect v ≡ columns ints (quad z) (quad w) .z
-    → rotationOf (record { x = x; y = y; z = v; e = k + k }) ≡ record { m = columns ints (quad z) (quad w); e = k + k }
-columns-made k z w x y v x-is y-is v-is = λ i. record { m = record { x = x-is i; y = y-is i; z = v-is i }; e = k + k }

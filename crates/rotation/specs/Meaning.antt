@@ -37,23 +37,23 @@ none = record { x = nil; y = nil; z = nil; e = 0 }
 abbrev pub refused : ℕ → ℕ → Answer
 refused n p = record { refusal = n; rotation = none }
 
-pub record Turns (m : Matrix) (r : Answer) : Type 0 where
+pub record AnswersRotation (m : Matrix) (r : Answer) : Type 0 where
   pub taken : r .refusal ≡ Accepted
   pub is : RotationOf m (rotationOf (r .rotation))
   pub least : LeastExponent (rotationOf (r .rotation)) (r .rotation .e)
 
 abbrev pub RotationOutcome : ℤ → ℕ → ZOmega → ZOmega → Answer → Type 0
-RotationOutcome k n z w r = Outcome refused (Turns (entries (given k n z w))) (checks k (quad z) (quad w)) r
+RotationOutcome k n z w r = Outcome refused (AnswersRotation (entries (given k n z w))) (checks k (quad z) (quad w)) r
 
 -- ---- the T count: that exponent alone
 abbrev pub refusedCount : ℕ → ℕ → Count
 refusedCount n p = record { refusal = n; tees = 0 }
 
-pub record Counts (m : Matrix) (r : Count) : Type 0 where
+pub record AnswersCount (m : Matrix) (r : Count) : Type 0 where
   pub taken : r .refusal ≡ Accepted
   pub rotation : Exact.Rotation
   pub is : RotationOf m rotation
   pub least : LeastExponent rotation (r .tees)
 
 abbrev pub CountOutcome : ℤ → ℕ → ZOmega → ZOmega → Count → Type 0
-CountOutcome k n z w r = Outcome refusedCount (Counts (entries (given k n z w))) (checks k (quad z) (quad w)) r
+CountOutcome k n z w r = Outcome refusedCount (AnswersCount (entries (given k n z w))) (checks k (quad z) (quad w)) r

@@ -9,7 +9,7 @@ use Rattle.exact.specs.Meaning.Triple.{entries, Unitary}
 use Rattle.exact.specs.Meaning.Rotation.{Three, Vect, addV, timesV, Rotation, RotationOf}
 use Rattle.exact.specs.Matrices.Least.{modEight-same}
 use Rattle.exact.specs.Rotation.Sizes.{UpV, UpC, up-neg}
-use Rattle.exact.specs.Rotation.Worked.{with-n, columns, columns-rotation, negV, quarter, eighth, quarter-more, eighth-more}
+use Rattle.exact.specs.Rotation.Worked.{with-n, columns, columns-rotation, negV, quarter, eighth, eighth-more, quarters, quarters-more}
 use Rattle.exact.specs.Rotation.Few.{columns-up}
 use Rattle.ring.specs.Meaning.{quad}
 use Rattle.ring.specs.declared.ZOmega.{ZOmega}
@@ -17,11 +17,6 @@ use Rattle.root_two.specs.Meaning.{vect}
 use Rattle.rotation.specs.Meaning.{axesOf, rotationOf}
 use Rattle.root_two.specs.declared.Vect as Machine
 use Rattle.rotation.specs.declared.Rotation as Declared
-
--- so many quarters
-abbrev pub quarters : ℕ → Three (Vect ℤ) → Three (Vect ℤ)
-quarters zero m = m
-quarters (suc n) m = quarter ints (quarters n m)
 
 pub negV-up : {n : ℕ} {v : Vect ℤ} → UpV n v → UpV n (negV ints v)
 negV-up h = record { x-up = up-neg (h .x-up); y-up = up-neg (h .y-up); z-up = up-neg (h .z-up) }
@@ -84,13 +79,6 @@ pub record Turned (n : ℕ) (s r : Rotation) : Type 0 where
   pub e-few : r .e ≤ s .e + 1
 
 module _ (k : ℕ) (z w : Ω) (s : Rotation) (h : RotationOf (entries (with-n k 0 z w)) s) where
-  by-quarters : (i : ℕ) → RotationOf (entries (with-n k (i + i) z w)) (record { m = quarters i (s .m); e = s .e })
-  by-quarters zero = h
-  by-quarters (suc i) =
-      let two : i + i + 2 ≡ suc i + suc i = omega arith in
-      subst (λ n. RotationOf (entries (with-n k n z w)) (record { m = quarters (suc i) (s .m); e = s .e })) two
-      (quarter-more k (i + i) z w (quarters i (s .m)) (s .e) (by-quarters i))
-
   -- n modulo 8
   at-n : (m n : ℕ) (r : Rotation) → m ≡ n % 8 → RotationOf (entries (with-n k m z w)) r → RotationOf (entries (with-n k n z w)) r
   at-n m n r e g =
@@ -100,7 +88,7 @@ module _ (n : ℕ) (s r : Rotation) where
   pub turned-even : n % 8 % 2 ≡ 0 → r ≡ record { m = quarters (n % 8 / 2) (s .m); e = s .e } → Turned n s r
   turned-even even is =
       record {
-        turned = λ k z w h. at-n k z w s h (n % 8 / 2 + n % 8 / 2) n r (omega arith) (rw is (by-quarters k z w s h (n % 8 / 2)));
+        turned = λ k z w h. at-n k z w s h (n % 8 / 2 + n % 8 / 2) n r (omega arith) (rw is (quarters-more k z w s h (n % 8 / 2)));
         e-few = omega (arith, ap (λ t. t .e) is);
       }
 
@@ -111,7 +99,7 @@ module _ (n : ℕ) (s r : Rotation) where
       record {
         turned = λ k z w h.
             at-n k z w s h (n % 8 / 2 + n % 8 / 2 + 1) n r (omega (arith, odd))
-            (rw is (eighth-more k (n % 8 / 2 + n % 8 / 2) z w (quarters (n % 8 / 2) (s .m)) (s .e) (by-quarters k z w s h (n % 8 / 2))));
+            (rw is (eighth-more k (n % 8 / 2 + n % 8 / 2) z w (quarters (n % 8 / 2) (s .m)) (s .e) (quarters-more k z w s h (n % 8 / 2))));
         e-few = omega (arith, ap (λ t. t .e) is);
       }
 

@@ -15,7 +15,7 @@ use Rattle.ring.specs.Meaning.{quad}
 use Rattle.ring.specs.declared.ZOmega.{ZOmega}
 use Rattle.unitary.specs.Meaning.{given}
 use Rattle.rotation.specs.declared.Rotation.{Rotation}
-use Rattle.rotation.specs.Meaning.{rotationOf, refused, Turns, RotationOutcome, refusedCount, Counts, CountOutcome}
+use Rattle.rotation.specs.Meaning.{rotationOf, refused, AnswersRotation, RotationOutcome, refusedCount, AnswersCount, CountOutcome}
 
 -- a machine's rotation is told by the exact one
 rotation-inj : {r s : Rotation} → rotationOf r ≡ rotationOf s → r ≡ s
@@ -40,7 +40,7 @@ rotation-inj e = λ i.
       e = e i .e;
     }
 
-one-turned : (m : Matrix) → Only (Turns m)
+one-turned : (m : Matrix) → Only (AnswersRotation m)
 one-turned m r s a b = λ i. record { refusal = (a .taken ∙ sym (b .taken)) i; rotation = rotation-inj both i }
   where
     same : Exact.SameRotation (rotationOf (r .rotation)) (rotationOf (s .rotation))
@@ -54,15 +54,15 @@ one-turned m r s a b = λ i. record { refusal = (a .taken ∙ sym (b .taken)) i;
 
 pub rotation-unique : (k : ℤ) (n : ℕ) (z w : ZOmega) → Only (RotationOutcome k n z w)
 rotation-unique k n z w =
-    one-outcome refused (Turns (entries (given k n z w))) (checks k (quad z) (quad w)) (checks-one k (quad z) (quad w))
+    one-outcome refused (AnswersRotation (entries (given k n z w))) (checks k (quad z) (quad w)) (checks-one k (quad z) (quad w))
     (λ h. one-turned (entries (given k n z w)))
 
-one-count : (m : Matrix) → Only (Counts m)
+one-count : (m : Matrix) → Only (AnswersCount m)
 one-count m r s a b =
     let same = rotation-same (Same-refl m) (a .is) (b .is) in
     λ i. record { refusal = (a .taken ∙ sym (b .taken)) i; tees = least-once (least-moved same (a .least)) (b .least) i }
 
 pub count-unique : (k : ℤ) (n : ℕ) (z w : ZOmega) → Only (CountOutcome k n z w)
 count-unique k n z w =
-    one-outcome refusedCount (Counts (entries (given k n z w))) (checks k (quad z) (quad w)) (checks-one k (quad z) (quad w))
+    one-outcome refusedCount (AnswersCount (entries (given k n z w))) (checks k (quad z) (quad w)) (checks-one k (quad z) (quad w))
     (λ h. one-count (entries (given k n z w)))

@@ -1,5 +1,6 @@
 -- Wrong programs, and that what they hand back does not meet the promises: one that refuses all, one that hands on k or twice k for the T count, one whose
--- exponent is not the least, one that answers the transpose, one with the Y axis turned round. At HT, whose triple is written with k = 1. Assumes nothing.
+-- exponent is not the least, one that answers the transpose, one with the Y axis turned round. At T, where k is 0, and at HT, where it is 1. Assumes
+-- nothing.
 use mathlib.Core.Path.{_≡_, refl, ap}
 use mathlib.Core.List.{[], _∷_}
 use Prim.Native.Nat.{ℕ, suc}
@@ -15,10 +16,10 @@ use Rattle.exact.specs.Meaning.Refusals.{checks}
 use Rattle.exact.specs.Meaning.Outcome.{none}
 use Rattle.exact.specs.Cases.NormalTest.{normal-by}
 use Rattle.exact.specs.Matrices.Test.{same-by}
-use Rattle.exact.specs.Outcomes.Ladder.{pass}
+use Rattle.exact.specs.Outcomes.Ladder.{pass, answered}
 use Rattle.exact.specs.Outcomes.Checked.{Taken, taken-checks}
 use Rattle.exact.specs.Rotation.Laws.{wordRotation, rotation-word, rotation-moved}
-use Rattle.exact.specs.Rotation.Least.{normal-least}
+use Rattle.exact.specs.Rotation.Least.{least-once, normal-least}
 use Rattle.ring.specs.Meaning.{quad}
 use Rattle.ring.specs.declared.ZOmega.{ZOmega}
 use Rattle.unitary.specs.Meaning.{given}
@@ -26,7 +27,7 @@ use Rattle.root_two.specs.declared.Vect.{Vect}
 use Rattle.rotation.specs.declared.Rotation.{Rotation}
 use Rattle.rotation.specs.declared.Answer.{Answer}
 use Rattle.rotation.specs.declared.Count.{Count}
-use Rattle.rotation.specs.Meaning.{refused, Turns, RotationOutcome, refusedCount, Counts, CountOutcome}
+use Rattle.rotation.specs.Meaning.{refused, AnswersRotation, RotationOutcome, refusedCount, AnswersCount, CountOutcome}
 use Rattle.rotation.specs.Unique.{rotation-unique, count-unique}
 
 -- ---- HT: z = 1, w = 1, n = 5, k = 1
@@ -55,7 +56,7 @@ ht-least = normal-least (normal-by (H ∷ T′ ∷ I ∷ []) tt) (rotation-word 
 
 ht-counts : CountOutcome (pos 1) 5 one one (record { refusal = 0; tees = 1 })
 ht-counts =
-    pass refusedCount (Counts (entries (given (pos 1) 5 one one))) (checks (pos 1) (quad one) (quad one)) none
+    pass refusedCount (AnswersCount (entries (given (pos 1) 5 one one))) (checks (pos 1) (quad one) (quad one)) none
     (taken-checks (pos 1) (quad one) (quad one) ht-taken) (record { refusal = 0; tees = 1 })
     (record { taken = refl; rotation = turnedWord; is = ht-is; least = ht-least })
 
@@ -74,7 +75,7 @@ ht = record {
 ht-turns : RotationOutcome (pos 1) 5 one one (record { refusal = 0; rotation = ht })
 unfolding ht
 ht-turns =
-    pass refused (Turns (entries (given (pos 1) 5 one one))) (checks (pos 1) (quad one) (quad one)) none
+    pass refused (AnswersRotation (entries (given (pos 1) 5 one one))) (checks (pos 1) (quad one) (quad one)) none
     (taken-checks (pos 1) (quad one) (quad one) ht-taken) (record { refusal = 0; rotation = ht })
     (record { taken = refl; is = ht-is; least = ht-least })
 
@@ -84,6 +85,30 @@ no-refusal-t n c o e = omega (arith, e, ap (λ (j : Count). j .refusal) (count-u
 
 pub no-refusal-r : (n : ℕ) (a : Answer) → RotationOutcome (pos 1) 5 one one a → a .refusal ≡ suc n → ⊥
 no-refusal-r n a o e = omega (arith, e, ap (λ (j : Answer). j .refusal) (rotation-unique (pos 1) 5 one one _ a ht-turns o))
+
+-- ---- k for the T count: at T that is 0
+abbrev zero : ZOmega
+zero = record { a = pos 0; b = pos 0; c = pos 0; d = pos 0 }
+
+t-taken : Taken (pos 0) (quad one) (quad zero)
+t-taken =
+    record {
+      exponent-in = record { low = record { le = tt }; high = record { le = tt } };
+      coefficients-in = record { z-in = omega arith; w-in = omega arith };
+      unitary-there = λ n. record { squares-sum = refl; crosses-sum = refl };
+    }
+
+pub k-alone : CountOutcome (pos 0) 1 one zero (record { refusal = 0; tees = 0 }) → ⊥
+k-alone o =
+    omega (arith, least-once (normal-least (normal-by (T′ ∷ I ∷ []) tt) (rotation-moved t-word (c .is))) (c .least))
+  where
+    t-word : Same (entries (given (pos 0) 1 one zero)) (word (T′ ∷ I ∷ []))
+    t-word = same-by (entries (given (pos 0) 1 one zero)) (word (T′ ∷ I ∷ [])) tt
+
+    c : AnswersCount (entries (given (pos 0) 1 one zero)) (record { refusal = 0; tees = 0 })
+    c =
+        answered refusedCount (AnswersCount (entries (given (pos 0) 1 one zero))) (checks (pos 0) (quad one) (quad zero))
+        (taken-checks (pos 0) (quad one) (quad zero) t-taken) (record { refusal = 0; tees = 0 }) o
 
 -- ---- twice k for the T count, and nothing
 pub twice-k : CountOutcome (pos 1) 5 one one (record { refusal = 0; tees = 2 }) → ⊥

@@ -21,16 +21,16 @@ use Rattle.unitary.specs.Checks.{CheckOutcome, exponent-size}
 use Rattle.unitary.specs.Checked.{taken, refused-as, taken-as}
 use Rattle.rotation.specs.declared.Rotation.{Rotation}
 use Rattle.rotation.specs.Meaning as Meaning
-use Rattle.rotation.specs.Meaning.{axesOf, rotationOf, refused, Turns, RotationOutcome, refusedCount, Counts, CountOutcome}
+use Rattle.rotation.specs.Meaning.{axesOf, rotationOf, refused, AnswersRotation, RotationOutcome, refusedCount, AnswersCount, CountOutcome}
 use Rattle.rotation.specs.Shared.{Lowered}
 use Rattle.rotation.specs.Turned.{WorkedOut}
 
 module _ (k : ℤ) (n : ℕ) (z w : ZOmega) (fits : SFits w64 k) (r : ℕ) (checked : CheckOutcome (held w64 k) z w r) where
   pub rotate-refused : (r ≡ 0 → ⊥) → (t : Rotation) → t ≡ Meaning.none → RotationOutcome k n z w (record { refusal = r; rotation = t })
-  rotate-refused f t e = rw e (refused-as fits checked refused (Turns (entries (given k n z w))) none f)
+  rotate-refused f t e = rw e (refused-as fits checked refused (AnswersRotation (entries (given k n z w))) none f)
 
   pub count-refused : (r ≡ 0 → ⊥) → CountOutcome k n z w (record { refusal = r; tees = 0 })
-  count-refused f = refused-as fits checked refusedCount (Counts (entries (given k n z w))) none f
+  count-refused f = refused-as fits checked refusedCount (AnswersCount (entries (given k n z w))) none f
 
   module _ (yes : r ≡ 0) where
     pub taken-few : natAbs (held w64 k) ≤ 60
@@ -46,12 +46,12 @@ module _ (k : ℤ) (n : ℕ) (z w : ZOmega) (fits : SFits w64 k) (r : ℕ) (chec
       pub count-taken : CountOutcome k n z w (record { refusal = 0; tees = s .e - d })
       count-taken =
           let q = quotient d (axesOf s) (deep .so-often) in
-          taken-as fits checked refusedCount (Counts (entries (given k n z w))) none yes (record { refusal = 0; tees = s .e - d })
+          taken-as fits checked refusedCount (AnswersCount (entries (given k n z w))) none yes (record { refusal = 0; tees = s .e - d })
           (record { taken = refl; rotation = rotationOf s; is = is; least = lowered-least (s .e) d (axesOf s) (q .low) (q .is) deep })
 
       pub rotate-taken : (t : Rotation) → Lowered d s t → RotationOutcome k n z w (record { refusal = 0; rotation = t })
       rotate-taken t l =
-          taken-as fits checked refused (Turns (entries (given k n z w))) none yes (record { refusal = 0; rotation = t })
+          taken-as fits checked refused (AnswersRotation (entries (given k n z w))) none yes (record { refusal = 0; rotation = t })
           (record {
             taken = refl;
             is = rotation-written is same;

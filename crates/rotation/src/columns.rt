@@ -6,7 +6,7 @@ ghost use Rattle.exact.specs.Rotation.Worked.{squareRe, squareIm, twiceRe, twic
 ghost use Rattle.ring.specs.Meaning.{quad};
 ghost use Rattle.root_two.specs.Meaning.{root, vect};
 ghost use Rattle.rotation.specs.Meaning.{rotationOf};
-ghost use Rattle.rotation.specs.Columns.{HasParts, Twiced, Normed, Held};
+ghost use Rattle.rotation.specs.Columns.{HasParts, Twiced, Normed, XFits, YFits, xOf, yOf, Held};
 use crate::Rotation;
 use ring::ZOmega;
 use root_two::Root;
@@ -63,14 +63,11 @@ fn norm_difference(z: ZOmega, w: ZOmega) -> Root
     Root { p: a - b, q: c - d }
 }
 
-fn x_becomes(z: ZOmega, w: ZOmega) -> Vect
-    requires { ⌜ Held (quad z) (quad w) ⌝ }
-    ensures { λ r. ⌜ vect r ≡ columns ints (quad z) (quad w) .x ⌝ }
+// From the squares of z and w, and twice their product.
+fn x_becomes(s: Parts, t: Parts, m: Parts) -> Vect
+    requires { ⌜ XFits s t m ⌝ }
+    ensures { λ r. ⌜ vect r ≡ xOf s t m ⌝ }
 {
-    let s = square(z);
-    let t = square(w);
-    let product = z.mul(w);
-    let m = twice(product);
     let a = s.re;
     let b = s.im;
     let c = t.re;
@@ -79,22 +76,14 @@ fn x_becomes(z: ZOmega, w: ZOmega) -> Vect
     let minus = b.neg();
     let x = a.sub(c);
     let y = minus.sub(d);
-    let z_part = e.neg();
-    Vect {
-        x: x,
-        y: y,
-        z: z_part,
-    }
+    let z = e.neg();
+    Vect { x: x, y: y, z: z }
 }
 
-fn y_becomes(z: ZOmega, w: ZOmega) -> Vect
-    requires { ⌜ Held (quad z) (quad w) ⌝ }
-    ensures { λ r. ⌜ vect r ≡ columns ints (quad z) (quad w) .y ⌝ }
+fn y_becomes(s: Parts, t: Parts, m: Parts) -> Vect
+    requires { ⌜ YFits s t m ⌝ }
+    ensures { λ r. ⌜ vect r ≡ yOf s t m ⌝ }
 {
-    let s = square(z);
-    let t = square(w);
-    let product = z.mul(w);
-    let m = twice(product);
     let a = s.re;
     let b = s.im;
     let c = t.re;
@@ -102,12 +91,8 @@ fn y_becomes(z: ZOmega, w: ZOmega) -> Vect
     let e = m.im;
     let x = b.sub(d);
     let y = a.add(c);
-    let z_part = e.neg();
-    Vect {
-        x: x,
-        y: y,
-        z: z_part,
-    }
+    let z = e.neg();
+    Vect { x: x, y: y, z: z }
 }
 
 fn z_becomes(z: ZOmega, w: ZOmega) -> Vect
@@ -132,8 +117,12 @@ pub(crate) fn columns(k: u8, z: ZOmega, w: ZOmega) -> Rotation
     requires { ⌜ k ≤ 60 ⌝ ∗ ⌜ Held (quad z) (quad w) ⌝ }
     ensures { λ r. ⌜ rotationOf r ≡ record { m = columns ints (quad z) (quad w); e = k + k } ⌝ }
 {
-    let x = x_becomes(z, w);
-    let y = y_becomes(z, w);
+    let s = square(z);
+    let t = square(w);
+    let product = z.mul(w);
+    let m = twice(product);
+    let x = x_becomes(s, t, m);
+    let y = y_becomes(s, t, m);
     let z_to = z_becomes(z, w);
     Rotation {
         x: x,

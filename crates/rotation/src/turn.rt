@@ -3,9 +3,9 @@ ghost use mathlib.Core.Path.{_≡_};
 ghost use Prim.Native.Nat.{_+_, _^_, _<_};
 ghost use Rattle.exact.specs.Meaning.Number.{ints};
 ghost use Rattle.exact.specs.Rotation.Sizes.{UpC};
-ghost use Rattle.exact.specs.Rotation.Worked.{quarter, eighth};
+ghost use Rattle.exact.specs.Rotation.Worked.{quarter, eighth, quarters};
 ghost use Rattle.rotation.specs.Meaning.{axesOf, rotationOf};
-ghost use Rattle.rotation.specs.Turned.{quarters, Turned};
+ghost use Rattle.rotation.specs.Turned.{Turned};
 use crate::Rotation;
 
 impl Rotation {

@@ -40,7 +40,9 @@ two x xs = x .p ∷ x .q ∷ xs
 abbrev pub evalR : (O : Ops) → List (O .Car) → Root Expr → Root (O .Car)
 evalR O xs e = record { p = eval O (at O xs) (e .p); q = eval O (at O xs) (e .q) }
 
-pub solveR : (O : Ops) → Laws O → (xs : List (O .Car)) (e f : Root Expr) → T (same (e .p) (f .p)) × T (same (e .q) (f .q)) → evalR O xs e ≡ evalR O xs f
+pub solveR : (O : Ops) → Laws O → (xs : List (O .Car)) (e f : Root Expr)
+    → T (same (e .p) (f .p)) × T (same (e .q) (f .q))
+    → evalR O xs e ≡ evalR O xs f
 solveR O L xs e f t = root-path (solve O L xs (e .p) (f .p) (t .0)) (solve O L xs (e .q) (f .q) (t .1))
 
 -- ---- the laws
@@ -76,9 +78,6 @@ module _ (O : Ops) (L : Laws O) where
 
   pub ofRoot-times : (x : Root (O .Car)) → ofRoot O (timesR O x) ≡ mulQ O (root2 O) (ofRoot O x)
   ofRoot-times x = solveQ O L (two x []) (ofRoot exprs (timesR exprs R₀)) (mulQ exprs (root2 exprs) (ofRoot exprs R₀)) (tt, tt, tt, tt)
-
-  pub ofRoot-conj : (x : Root (O .Car)) → conjQ O (ofRoot O x) ≡ ofRoot O x
-  ofRoot-conj x = solveQ O L (two x []) (conjQ exprs (ofRoot exprs R₀)) (ofRoot exprs R₀) (tt, tt, tt, tt)
 
 -- ---- over the whole numbers
 pub root-two-laws : Laws (rootTwos ints)

@@ -53,6 +53,13 @@ module _ {R : Type 0} (refused : ℕ → ℕ → R) (Answer : R → Type 0) wher
   accepted P (f then fs) h r a (Rung.given p k e) = absurd (h .0 p (subst P e a))
   accepted P (f then fs) h r a (Rung.passed n x) = accepted P fs (h .1) r a x
 
+  -- refusals that don't give it are passed, and what comes behind them stands alone
+  pub through : (P : R → Type 0) (fs gs : Refusals) → NoneGives P fs → (r : R) → P r → Outcome refused Answer (fs also gs) r
+      → Passed fs × Outcome refused Answer gs r
+  through P none gs h r a x = (tt, x)
+  through P (f then fs) gs h r a (Rung.given p k e) = absurd (h .0 p (subst P e a))
+  through P (f then fs) gs h r a (Rung.passed n x) = let s = through P fs gs (h .1) r a x in ((n, s .0), s .1)
+
   -- where one holds and those before it don't, it is given, at its place, and nothing else is
   module _ (f : Refusal) (one : (p q : ℕ) → f .At p → f .At q → p ≡ q) (p : ℕ) (h : f .At p) where
     pub only-refused : (fs gs : Refusals) → Passed fs → (r : R) → Outcome refused Answer (fs also (f then gs)) r → r ≡ refused (f .number) p

@@ -24,7 +24,7 @@ use Rattle.exact.specs.Rotation.Laws.{rotation-same, rotation-written}
 use Rattle.exact.specs.Rotation.Orthogonal.{orthogonal}
 use Rattle.exact.specs.Rotation.Sizes.{UpC, shorts, ups-to, up-all}
 use Rattle.exact.specs.Rotation.Least.{lifts, lowered-same}
-use Rattle.exact.specs.Rotation.Worked.{with-n, columns, columns-rotation, quarter, eighth, quarter-more, eighth-more}
+use Rattle.exact.specs.Rotation.Worked.{with-n, columns, columns-rotation, quarter, eighth, eighth-more, quarters, quarters-more}
 
 -- ---- sizes
 pub columns-up : (j k : ℕ) (z w : Ω) → k ≤ j → Unitary (with-n k 0 z w) → UpC (2 ^ j) (columns ints z w)
@@ -84,6 +84,10 @@ quarter-agree {m} a =
       z-even = turned (m .x .z .p) (m .y .z .p) (a .z-even);
     }
 
+quarters-agree : (j : ℕ) {m : Three (Vect ℤ)} → Agree m → Agree (quarters j m)
+quarters-agree zero a = a
+quarters-agree (suc j) a = quarter-agree (quarters-agree j a)
+
 -- ---- then an eighth's root two goes again
 even-divides : (r : Root ℤ) → odd (r .p) ≡ false → DividesR 1 r
 even-divides r e = record { p-so = sym (bit-odd (r .p)) ∙ ap bit e; q-so = mod-one (natAbs (r .q)) }
@@ -113,11 +117,6 @@ eighth-lifts m a =
     λ i. record { x = x-is i; y = y-is i; z = z-is i }
 
 -- ---- what it can be written with
-record Written (k n : ℕ) (z w : Ω) : Type 0 where
-  m : Three (Vect ℤ)
-  agree : 0 < k → Agree m
-  is : RotationOf (entries (with-n k n z w)) (record { m = m; e = k + k })
-
 module _ (k : ℕ) (z w : Ω) (u : Unitary (with-n k 0 z w)) where
   evens : 0 < k → odd (squares ints z +ℤ squares ints w) ≡ false
   evens l = ap odd (u .squares-sum) ∙ go k l
@@ -129,31 +128,21 @@ module _ (k : ℕ) (z w : Ω) (u : Unitary (with-n k 0 z w)) where
           even : 2 ^ suc k % 2 ≡ 0
           even = omega arith
 
-  by-quarters : (j : ℕ) → Written k (j + j) z w
-  by-quarters zero = record { m = columns ints z w; agree = λ l. columns-agree z w (evens l); is = columns-rotation k z w }
-  by-quarters (suc j) =
-      let h = by-quarters j in
-      let two : j + j + 2 ≡ suc j + suc j = omega arith in
-      record {
-        m = quarter ints (h .m);
-        agree = λ l. quarter-agree (h .agree l);
-        is =
-            subst (λ n. RotationOf (entries (with-n k n z w)) (record { m = quarter ints (h .m); e = k + k })) two
-            (quarter-more k (j + j) z w (h .m) (k + k) (h .is));
-      }
-
-  -- an eighth more
+  -- the columns turned by 2j eighths, and by one more
   module _ (j : ℕ) where
-    abbrev h : Written k (j + j) z w
-    h = by-quarters j
+    abbrev m : Three (Vect ℤ)
+    m = quarters j (columns ints z w)
 
-    at-odd : RotationOf (entries (with-n k (j + j + 1) z w)) (record { m = eighth ints (h .m); e = k + k + 1 })
-    at-odd = eighth-more k (j + j) z w (h .m) (k + k) (h .is)
+    at-quarters : RotationOf (entries (with-n k (j + j) z w)) (record { m = m; e = k + k })
+    at-quarters = quarters-more k z w (record { m = columns ints z w; e = k + k }) (columns-rotation k z w) j
 
-    lower : 0 < k → SameRotation (record { m = eighth ints (h .m); e = k + k + 1 }) (record { m = halfways (eighth ints (h .m)); e = k + k })
+    at-odd : RotationOf (entries (with-n k (j + j + 1) z w)) (record { m = eighth ints m; e = k + k + 1 })
+    at-odd = eighth-more k (j + j) z w m (k + k) at-quarters
+
+    lower : 0 < k → SameRotation (record { m = eighth ints m; e = k + k + 1 }) (record { m = halfways (eighth ints m); e = k + k })
     lower l =
-        subst (λ f. SameRotation (record { m = eighth ints (h .m); e = k + k + 1 }) (record { m = halfways (eighth ints (h .m)); e = f })) one-less
-        (lowered-same (k + k + 1) 1 (eighth ints (h .m)) (halfways (eighth ints (h .m))) (eighth-lifts (h .m) (h .agree l)) (omega arith))
+        subst (λ f. SameRotation (record { m = eighth ints m; e = k + k + 1 }) (record { m = halfways (eighth ints m); e = f })) one-less
+        (lowered-same (k + k + 1) 1 (eighth ints m) (halfways (eighth ints m)) (eighth-lifts m (quarters-agree j (columns-agree z w (evens l)))) (omega arith))
       where
         one-less : k + k + 1 - 1 ≡ k + k
         one-less = omega arith
@@ -171,7 +160,7 @@ module _ (t : Triple) (u : Unitary t) {r : Rotation} {e : ℕ} (h : RotationOf (
   j = t .n / 2
 
   at-even : t .n % 2 ≡ 0 → e ≤ t .k + t .k
-  at-even f = under whole (by-quarters (t .k) (t .z) (t .w) there j .is)
+  at-even f = under whole (at-quarters (t .k) (t .z) (t .w) there j)
     where
       whole : j + j ≡ t .n
       whole = omega arith

@@ -140,10 +140,7 @@ turns-all {u} {r} h v =
     once : Vect ℤ → Mat Ω
     once w = lifted (u .e) (sigma ints w)
 
--- ---- the same rotation is an equivalence
-pub rotation-refl : (r : Rotation) → SameRotation r r
-rotation-refl r = record { x-same = refl; y-same = refl; z-same = refl }
-
+-- ---- the same rotation, the other way and by a third
 pub rotation-sym : {r s : Rotation} → SameRotation r s → SameRotation s r
 rotation-sym h = record { x-same = sym (h .x-same); y-same = sym (h .y-same); z-same = sym (h .z-same) }
 

@@ -67,7 +67,7 @@ pub record Divides (n : ℕ) (m : Three (Vect ℤ)) : Type 0 where
   pub y-so : DividesV n (m .y)
   pub z-so : DividesV n (m .z)
 
--- root two to the n divides them all, to the n + 1 not, where n could be more than f
+-- n is at most f; root two to the n divides them all, and where n is below f, root two to the n + 1 does not
 pub record Deepest (f : ℕ) (m : Three (Vect ℤ)) (n : ℕ) : Type 0 where
   pub within : n ≤ f
   pub so-often : Divides n m

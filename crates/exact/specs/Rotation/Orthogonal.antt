@@ -1,5 +1,5 @@
 -- The rotation of a matrix that its conjugate transposed inverts is orthogonal: the columns' inner products are those of the axes, by the trace of a
--- product. So an entry (p + q·root two) over root two to the e has p² + 2q² at most 2^e. Assumes nothing.
+-- product. Assumes nothing.
 use mathlib.Core.Path.{_≡_, sym, _∙_, ap, ap₂}
 use mathlib.Core.List.{[], _∷_, _++_}
 use Prim.Native.Nat.{ℕ, zero, suc, _+_}
@@ -46,7 +46,7 @@ trace-sigma v w =
     product = mulM (quads exprs) (sigma exprs V₀) (sigma exprs (vectAt 6))
 
 -- ---- through a matrix
--- M·s·N and M·t·N, where N·M is c·c
+-- M·s·N and M·t·N
 trace-through : (m n s t : Mat Ω)
     → trace omegas (mulM omegas (mulM omegas m s) n) (mulM omegas (mulM omegas m t) n)
     ≡ trace omegas (mulM omegas (mulM omegas n m) s) (mulM omegas (mulM omegas n m) t)

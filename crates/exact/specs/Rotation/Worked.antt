@@ -5,6 +5,7 @@ use mathlib.Core.List.{List, [], _++_}
 use Prim.Native.Nat.{ℕ, zero, suc, _+_}
 use native.Mathlib.Nat.{add-zero}
 use native.Mathlib.Numerals.{add-one}
+use native.Mathlib.Omega.{arith}
 use lib.Dec.{T}
 use lib.IntN.{ℤ, pos}
 use Rattle.exact.specs.Meaning.Number.{Ops, Quad, Ω, ints, omegas, quads, power, mulQ, conjQ, constQ, omega′, omega^, root2^}
@@ -192,6 +193,19 @@ module _ (k n : ℕ) (z w : Ω) where
 
     pub eighth-more : RotationOf (entries (with-n k (n + 1) z w)) (record { m = eighth ints m; e = e + 1 })
     eighth-more = rw t-more (by-eighth m h)
+
+-- so many quarters
+abbrev pub quarters : ℕ → Three (Vect ℤ) → Three (Vect ℤ)
+quarters zero m = m
+quarters (suc n) m = quarter ints (quarters n m)
+
+pub quarters-more : (k : ℕ) (z w : Ω) (s : Rotation) → RotationOf (entries (with-n k 0 z w)) s → (i : ℕ)
+    → RotationOf (entries (with-n k (i + i) z w)) (record { m = quarters i (s .m); e = s .e })
+quarters-more k z w s h zero = h
+quarters-more k z w s h (suc i) =
+    let two : i + i + 2 ≡ suc i + suc i = omega arith in
+    subst (λ n. RotationOf (entries (with-n k n z w)) (record { m = quarters (suc i) (s .m); e = s .e })) two
+    (quarter-more k (i + i) z w (quarters i (s .m)) (s .e) (quarters-more k z w s h i))
 
 -- ---- so every triple has one: the entries are real, numbers of ℤ[root two] over a power of root two
 pub record HasRotation (u : Matrix) : Type 0 where
