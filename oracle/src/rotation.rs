@@ -53,7 +53,7 @@ pub struct Rotation {
 }
 
 /// The most that an exponent can be: 2k at k = 60.
-const DEEPEST: i64 = 120;
+const MOST_TEES: i64 = 120;
 
 /// X, Y and Z as matrices.
 fn axes() -> [Matrix; 3] {
@@ -167,7 +167,7 @@ impl Rotation {
     pub fn is_bounded(&self) -> bool {
         let squares = |x: &Root| [x.p, x.q].map(|v| v.unsigned_abs().pow(2));
         let small = |x: &Root| squares(x)[0].max(2 * squares(x)[1]) <= 1 << self.e;
-        (0..=DEEPEST).contains(&self.e) && self.at.iter().flatten().all(small)
+        (0..=MOST_TEES).contains(&self.e) && self.at.iter().flatten().all(small)
     }
 
     /// The columns' inner products are 0, and that of one with itself is 2^e.

@@ -54,7 +54,8 @@ module _ (k : ℤ) (n : ℕ) (z w : ZOmega) where
   -- ---- what the rotation hands back is what the T count must
   pub exponent-counts : (a : Answer) → RotationOutcome k n z w a → CountOutcome k n z w (record { refusal = a .refusal; tees = a .rotation .e })
   exponent-counts =
-      carry refused (AnswersRotation asked) refusedCount (AnswersCount asked) (λ (j : Answer). record { refusal = j .refusal; tees = j .rotation .e }) (λ m p. refl)
+      carry refused (AnswersRotation asked) refusedCount (AnswersCount asked)
+      (λ (j : Answer). record { refusal = j .refusal; tees = j .rotation .e }) (λ m p. refl)
       (checks k (quad z) (quad w)) none none
       (λ r h t. record { taken = t .taken; rotation = rotationOf (r .rotation); is = t .is; least = t .least })
 

@@ -2,14 +2,13 @@
 use mathlib.Core.Path.{_≡_, sym, _∙_, ap, subst}
 use Prim.Native.Nat.{ℕ, suc, _+_, _-_, _*_, _/_, _%_, _≤_, _<_, min}
 use native.Mathlib.Omega.{arith}
-use lib.Bits.{bitOr}
 use lib.IntN.{ℤ, pos, natAbs}
 use mir.Syntax.{w64}
 use mir.Val.{SFits, ofZ, toZ}
-use mir.Facts.{toZ-ofZ, ofZ-toZ}
+use mir.Facts.{toZ-ofZ}
 use Rattle.exact.specs.Meaning.Rotation.{Root, Three, Vect, lift}
 use Rattle.exact.specs.Whole.Machine.{held}
-use Rattle.exact.specs.Whole.Twos.{TwoTo, Zeros, orZ, or-fits, or-sfits, or-each, or-all, less-often}
+use Rattle.exact.specs.Whole.Twos.{TwoTo, Zeros, less-often}
 use Rattle.root_two.specs.Common.{Common, SharesP, SharesQ, common-back}
 use Rattle.exact.specs.Algebra.RootPower.{DividesR}
 use Rattle.exact.specs.Rotation.Least.{DividesV, Divides, Deepest, lifts}

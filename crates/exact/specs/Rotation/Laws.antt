@@ -1,6 +1,6 @@
 -- The laws of the rotation (Meaning/Rotation): what a matrix makes of the axes says what it makes of every vector, so that one matrix has one rotation,
 -- a product's is the product, a phase changes nothing and the identity's is none. Of words and of triples too. Assumes nothing.
-use mathlib.Core.Path.{_≡_, refl, sym, _∙_, ap, ap₂}
+use mathlib.Core.Path.{_≡_, sym, _∙_, ap, ap₂}
 use mathlib.Core.List.{List, [], _∷_, _++_}
 use Prim.Native.Nat.{ℕ, _+_}
 use native.Mathlib.Nat.{add-zero, add-comm}
