@@ -93,14 +93,16 @@ unitary-isometry {t} h =
       inverted =
           ap (λ s. mulM omegas s (entries t .m)) (star-entries t)
           ∙ mat-path
-          (ring₄ omegas omegas-laws (λ z z* w w*. z* ⊗ z ⊕ w* ⊗ w) (λ z z* w w*. z ⊗ z* ⊕ w ⊗ w*) tt z z* w w* ∙ size ∙ sym (one-at (root2^ (t .k))))
+          (ring₄ omegas omegas-laws (λ z z* w w*. z* ⊗ z ⊕ w* ⊗ w) (λ z z* w w*. z ⊗ z* ⊕ w ⊗ w*) tt z z* w w*
+          ∙ size ∙ sym (one-at (root2^ (t .k))))
           (solve omegas omegas-laws (z* ∷ w* ∷ u ∷ []) (var 0 ⊗ ⊖ (var 1 ⊗ var 2) ⊕ var 1 ⊗ (var 0 ⊗ var 2)) (con (pos 0)) tt
           ∙ sym (nil-at (root2^ (t .k))))
           (solve omegas omegas-laws (z ∷ w ∷ v ∷ []) (⊖ (var 1 ⊗ var 2) ⊗ var 0 ⊕ var 0 ⊗ var 2 ⊗ var 1) (con (pos 0)) tt
           ∙ sym (nil-at (root2^ (t .k))))
           (solve-from omegas omegas-laws (z ∷ z* ∷ w ∷ w* ∷ u ∷ v ∷ [])
           (record { c = var 0 ⊗ var 1 ⊕ var 2 ⊗ var 3; l = var 4 ⊗ var 5; r = con (pos 1) } ∷ [])
-          (⊖ (var 2 ⊗ var 5) ⊗ ⊖ (var 3 ⊗ var 4) ⊕ var 0 ⊗ var 5 ⊗ (var 1 ⊗ var 4)) (var 0 ⊗ var 1 ⊕ var 2 ⊗ var 3) tt (omega^-conj (t .n), tt)
+          (⊖ (var 2 ⊗ var 5) ⊗ ⊖ (var 3 ⊗ var 4) ⊕ var 0 ⊗ var 5 ⊗ (var 1 ⊗ var 4)) (var 0 ⊗ var 1 ⊕ var 2 ⊗ var 3) tt
+          (omega^-conj (t .n), tt)
           ∙ size ∙ sym (one-at (root2^ (t .k))));
     }
   where
@@ -134,7 +136,8 @@ unitary-isometry {t} h =
 pub isometry-unitary : {t : Triple} → Isometry (entries t) → Unitary t
 isometry-unitary {t} i =
     equation-unitary
-    (ring₄ omegas omegas-laws (λ z z* w w*. z ⊗ z* ⊕ w ⊗ w*) (λ z z* w w*. z* ⊗ z ⊕ w* ⊗ w) tt (t .z) (conjQ ints (t .z)) (t .w) (conjQ ints (t .w))
+    (ring₄ omegas omegas-laws (λ z z* w w*. z ⊗ z* ⊕ w ⊗ w*) (λ z z* w w*. z* ⊗ z ⊕ w* ⊗ w) tt
+    (t .z) (conjQ ints (t .z)) (t .w) (conjQ ints (t .w))
     ∙ ap (λ m. m .p) (i .inverted)
     ∙ ring₁ omegas omegas-laws (λ c. c ⊗ (c ⊗ con (pos 1))) (λ c. c ⊗ c) tt (root2^ (t .k))
     ∙ sym (two^ (t .k)))
@@ -180,7 +183,8 @@ mulT-is s t =
     (conj-eval xs (var 2 ⊗ var 6 ⊕ var 1 ⊗ var 4 ⊗ var 8)
     ∙ ap (λ a. addQ ints (mulQ ints w* z₂*) (mulQ ints (mulQ ints a v) w₂*)) (conj-conj ints ints-laws (s .z))) (omega^-add (s .n) (t .n))
     ∙ solve-from omegas omegas-laws xs (record { c = ⊖ (var 0 ⊗ var 9 ⊗ var 10); l = var 4 ⊗ var 5; r = con (pos 1) } ∷ [])
-    (⊖ ((var 3 ⊗ var 7 ⊕ var 0 ⊗ var 5 ⊗ var 9) ⊗ (var 4 ⊗ var 10))) (var 0 ⊗ ⊖ (var 9 ⊗ var 10) ⊕ ⊖ (var 3 ⊗ var 4) ⊗ (var 7 ⊗ var 10)) tt
+    (⊖ ((var 3 ⊗ var 7 ⊕ var 0 ⊗ var 5 ⊗ var 9) ⊗ (var 4 ⊗ var 10)))
+    (var 0 ⊗ ⊖ (var 9 ⊗ var 10) ⊕ ⊖ (var 3 ⊗ var 4) ⊗ (var 7 ⊗ var 10)) tt
     (omega^-conj (s .n), tt))
     (solve omegas omegas-laws xs (var 2 ⊗ var 6 ⊕ var 1 ⊗ var 4 ⊗ var 8) (var 2 ⊗ var 6 ⊕ var 1 ⊗ var 4 ⊗ var 8) tt)
     (ap₂ (mulQ ints)
@@ -188,7 +192,8 @@ mulT-is s t =
     ∙ ap (λ a. addQ ints (mulQ ints z* z₂*) (negQ ints (mulQ ints (mulQ ints a v) w₂*))) (conj-conj ints ints-laws (s .w)))
     (omega^-add (s .n) (t .n))
     ∙ solve-from omegas omegas-laws xs (record { c = ⊖ (var 2 ⊗ var 9 ⊗ var 10); l = var 4 ⊗ var 5; r = con (pos 1) } ∷ [])
-    ((var 1 ⊗ var 7 ⊕ ⊖ (var 2 ⊗ var 5 ⊗ var 9)) ⊗ (var 4 ⊗ var 10)) (var 2 ⊗ ⊖ (var 9 ⊗ var 10) ⊕ var 1 ⊗ var 4 ⊗ (var 7 ⊗ var 10)) tt
+    ((var 1 ⊗ var 7 ⊕ ⊖ (var 2 ⊗ var 5 ⊗ var 9)) ⊗ (var 4 ⊗ var 10))
+    (var 2 ⊗ ⊖ (var 9 ⊗ var 10) ⊕ var 1 ⊗ var 4 ⊗ (var 7 ⊗ var 10)) tt
     (omega^-conj (s .n), tt)))
     refl
   where

@@ -109,7 +109,8 @@ check-passed (f then fs) o r (Rung.given p h g) e = absurd (o .0 .0 (sym g ∙ e
 check-passed (f then fs) o r (Rung.passed n x) e = (n, check-passed fs (o .1) r x e)
 
 module _ {R : Type 0} (refused : ℕ → ℕ → R) (Answer : R → Type 0) where
-  pub check-refused : (fs gs : Refusals) → Placeless fs → (r : ℕ) → Checks fs r → (r ≡ 0 → ⊥) → Outcome refused Answer (fs also gs) (refused r 0)
+  pub check-refused : (fs gs : Refusals) → Placeless fs → (r : ℕ) → Checks fs r → (r ≡ 0 → ⊥)
+      → Outcome refused Answer (fs also gs) (refused r 0)
   check-refused none gs o r x n = absurd (n x)
   check-refused (f then fs) gs o r (Rung.given p h e) n = Rung.given p h (ap₂ refused e (sym (o .0 .1 p h)))
   check-refused (f then fs) gs o r (Rung.passed m x) n = Rung.passed m (check-refused fs gs (o .1) r x n)
