@@ -11,4 +11,5 @@ pub mod Again
 pub mod Steps
 pub mod Tees
 pub mod Phase
+pub mod Cheapest
 pub mod Enough

@@ -17,7 +17,7 @@ use Rattle.agreement.specs.Meaning.Exports.{Wrote, seen}
 use Rattle.agreement.specs.Again.{textOf}
 
 -- the refusal of a call is its job's
-job-taken : (Answer : List Letter → List Letter → Type 0) {w old : List ℕ} {r : Wrote} (x : Writes Answer w old r) → r .0 ≡ Accepted
+pub job-taken : (Answer : List Letter → List Letter → Type 0) {w old : List ℕ} {r : Wrote} (x : Writes Answer w old r) → r .0 ≡ Accepted
     → x .job .handed .refusal ≡ Accepted
 job-taken Answer x e = sym (ap (λ (y : Wrote). y .0) (x .is)) ∙ e
 

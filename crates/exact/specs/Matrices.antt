@@ -4,6 +4,7 @@ pub mod Same
 pub mod Star
 pub mod Test
 pub mod Words
+pub mod Determinant
 pub mod Phase
 pub mod Triples
 pub mod Divided

@@ -5,6 +5,7 @@ pub mod Rotation
 pub mod Word
 pub mod Triple
 pub mod Normal
+pub mod Cheapest
 pub mod Clifford
 pub mod Limits
 pub mod Endings

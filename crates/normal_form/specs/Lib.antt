@@ -11,4 +11,5 @@ pub mod Alike
 pub mod Identity
 pub mod Phase
 pub mod Freed
+pub mod Cheapest
 pub mod Enough

@@ -9,4 +9,5 @@ pub mod Parts
 pub mod Answer
 pub mod Enough
 pub mod OneMatrix
+pub mod Cheapest
 pub mod Useless

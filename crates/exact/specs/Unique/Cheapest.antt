@@ -1,0 +1,68 @@
+-- No cheaper spelling: of all words with its matrix a normal word has the fewest T letters, and all have one parity; so too among the words whose
+-- matrix is the same but for a phase, and there for a phase-free word. Assumes nothing.
+use mathlib.Core.Path.{_≡_, refl, sym}
+use mathlib.Core.List.{List}
+use Prim.Native.Nat.{_%_, _≤_}
+use native.Mathlib.Omega.{arith}
+use Rattle.exact.specs.Meaning.Number.{omega^}
+use Rattle.exact.specs.Meaning.Matrix.{Matrix, Same, scaled, ByOmega}
+use Rattle.exact.specs.Meaning.Word.{Letter, word, tees}
+use Rattle.exact.specs.Meaning.Normal.{NormalOf, PhaseFreeOf}
+use Rattle.exact.specs.Meaning.Cheapest.{Cheapest, NoCheaper}
+use Rattle.exact.specs.Matrices.Same.{Same-refl, Same-of, Same-sym, Same-trans}
+use Rattle.exact.specs.Matrices.Phase.{scaled-same, omega-one}
+use Rattle.exact.specs.Matrices.Determinant.{same-parity}
+use Rattle.exact.specs.Rotation.Laws.{rotation-word, rotation-phase, rotation-moved}
+use Rattle.exact.specs.Rotation.Least.{normal-least, none-fewer}
+use Rattle.exact.specs.Unique.PhaseFree.{phase-free-tees, phase-free-own, same-by-omega}
+
+-- the same matrix is omega to the 0 times it
+same-apart : {x y : Matrix} → Same x y → ByOmega x y
+same-apart {x} {y} h = record { power = 0; few = omega arith; same = Same-trans h (Same-of (sym (omega-one y))) }
+
+-- v is the normal word of m
+module _ {m : Matrix} {v : List Letter} (a : NormalOf m v) where
+  moved : {x : Matrix} (d : ByOmega x m) → Same x (scaled (omega^ (d .power)) (word v))
+  moved d = Same-trans (d .same) (scaled-same (omega^ (d .power)) (a .same))
+
+  -- a phase does not change the rotation, whose least exponent is v's number of T letters
+  none-under : (u : List Letter) → ByOmega (word u) m → tees v ≤ tees u
+  none-under u d =
+      none-fewer u (Same-refl (word u)) (rotation-moved (Same-sym (moved d)) (rotation-phase (d .power) (rotation-word v)))
+      (normal-least (a .normal) (rotation-word v))
+
+  one-parity : (u : List Letter) → ByOmega (word u) m → tees u % 2 ≡ tees v % 2
+  one-parity u d = same-parity u v (record { power = d .power; few = d .few; same = moved d })
+
+  -- p has as many, and what is like m differs from it by a phase at most
+  as-cheap : (Like : Matrix → Matrix → Type 0) → ((u : List Letter) → Like (word u) m → ByOmega (word u) m)
+      → (p : List Letter) → Like (word p) m → tees p ≡ tees v
+      → Cheapest Like m p (tees p)
+  as-cheap Like by p l e =
+      record {
+        like = l;
+        counted = refl;
+        fewest = λ u h. omega (arith, e, none-under u (by u h));
+        parity = λ u h. omega (arith, e, one-parity u (by u h));
+      }
+
+  pub normal-cheapest : Cheapest Same m v (tees v)
+  normal-cheapest = as-cheap Same (λ u h. same-apart h) v (Same-sym (a .same)) refl
+
+  pub normal-cheapest-phase : Cheapest ByOmega m v (tees v)
+  normal-cheapest-phase = as-cheap ByOmega (λ u h. h) v (same-apart (Same-sym (a .same))) refl
+
+-- ---- the theorem
+pub no-cheaper : NoCheaper Same
+no-cheaper v n = normal-cheapest (record { normal = n; same = Same-refl (word v) })
+
+pub no-cheaper-phase : NoCheaper ByOmega
+no-cheaper-phase v n = normal-cheapest-phase (record { normal = n; same = Same-refl (word v) })
+
+-- ---- phase-free words
+pub phase-free-cheapest : {m : Matrix} {p : List Letter} → PhaseFreeOf m p → Cheapest ByOmega m p (tees p)
+phase-free-cheapest {m} {p} f =
+    as-cheap (record { normal = f .phase-free .normal; same = f .same }) ByOmega (λ u h. h) p (same-by-omega own f refl) (phase-free-tees (f .phase-free))
+  where
+    own : PhaseFreeOf (word p) p
+    own = record { whole = p; phase-free = phase-free-own (f .phase-free); same = Same-refl (word p) }
