@@ -32,7 +32,9 @@ use Rattle.normal_form.specs.Theorems.{HasNormal, has-normal}
 use Rattle.normal_form.specs.Cheapest.{normalise-cheapest, phase-free-cheapest-5}
 use Rattle.steps.specs.Steps.{letters}
 use Rattle.steps.specs.Synthesised.{synthesised}
+use Rattle.synthesis_of_clifford_t.specs.declared.Synthesis.{Synthesis}
 use Rattle.synthesis_of_clifford_t.specs.Meaning.{Spelling}
+use Rattle.synthesis_of_clifford_t.specs.OneMatrix.{seen}
 use Rattle.synthesis_of_clifford_t.specs.Cheapest.{synthesised-cheapest}
 use Rattle.rotation.specs.declared.Count.{Count}
 use Rattle.rotation.specs.Meaning.{refusedCount, AnswersCount, CountOutcome}
@@ -60,19 +62,27 @@ module _ (u : List Letter) {old : List ℕ} {r : Wrote} where
       subst (LeftCheapest ByOmega (word u)) (sym (x .is)) (phase-free-cheapest-5 u (x .outcome) (job-taken DropsPhase x e))
 
 -- ---- triples
-module _ (k : ℤ) (n : ℕ) (zw : List ℤ) {old : List ℕ} {r : Wrote} where
+module _ (k : ℤ) (n : ℕ) (zw : List ℤ) where
   abbrev asked : Matrix
   asked = entries (given k n (zOf zw) (wOf zw))
 
-  pub exports-synthesise-cheapest : Synthesises countsOf k n zw old r → r .0 ≡ Accepted → LeftCheapest Same asked r
-  exports-synthesise-cheapest x e =
-      subst (LeftCheapest Same asked) (sym (x .is))
-      (synthesised-cheapest k n (zOf zw) (wOf zw) old (x .job .handed) (x .job .buffer) (x .outcome) (sym (ap (λ (y : Wrote). y .0) (x .is)) ∙ e))
+  -- `numbers` are what is handed back of job 4, the bytes and the T letters among them
+  module _ {old : List ℕ} {r : Wrote} where
+    of-job : (numbers : Synthesis → List ℕ)
+        → ((j : Lent Synthesis) → Spelled (Cheapest Same asked) (seen j .1) (j .handed .tees)
+        → LeftCheapest Same asked (j .handed .refusal, (numbers (j .handed), j .buffer)))
+        → Synthesises numbers k n zw old r → r .0 ≡ Accepted
+        → LeftCheapest Same asked r
+    of-job numbers left x e =
+        subst (LeftCheapest Same asked) (sym (x .is))
+        (left (x .job)
+        (synthesised-cheapest k n (zOf zw) (wOf zw) old (x .job .handed) (x .job .buffer) (x .outcome) (sym (ap (λ (y : Wrote). y .0) (x .is)) ∙ e)))
 
-  pub exports-steps-cheapest : Synthesises stepsOf k n zw old r → r .0 ≡ Accepted → LeftCheapest Same asked r
-  exports-steps-cheapest x e =
-      subst (LeftCheapest Same asked) (sym (x .is))
-      (synthesised-cheapest k n (zOf zw) (wOf zw) old (x .job .handed) (x .job .buffer) (x .outcome) (sym (ap (λ (y : Wrote). y .0) (x .is)) ∙ e))
+    pub exports-synthesise-cheapest : Synthesises countsOf k n zw old r → r .0 ≡ Accepted → LeftCheapest Same asked r
+    exports-synthesise-cheapest = of-job countsOf (λ j h. h)
+
+    pub exports-steps-cheapest : Synthesises stepsOf k n zw old r → r .0 ≡ Accepted → LeftCheapest Same asked r
+    exports-steps-cheapest = of-job stepsOf (λ j h. h)
 
 -- ---- what the bench program prints: a refusal, or a word of the record's matrix
 pub data Printed (s old : List ℕ) (r : Lent ℕ) : Type 0 where
