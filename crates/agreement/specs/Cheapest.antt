@@ -16,7 +16,7 @@ use Rattle.exact.specs.Meaning.Outcome.{Rung, none}
 use Rattle.exact.specs.Meaning.Lent.{Lent, lent}
 use Rattle.exact.specs.Meaning.Refusals.{checks}
 use Rattle.exact.specs.Meaning.Record.{Numbers, RightRecord}
-use Rattle.exact.specs.Matrices.Determinant.{tees-n}
+use Rattle.exact.specs.Matrices.Parity.{tees-n}
 use Rattle.exact.specs.Matrices.Same.{Same-sym, Same-trans}
 use Rattle.exact.specs.Matrices.Least.{reduce}
 use Rattle.exact.specs.Outcomes.Ladder.{through}

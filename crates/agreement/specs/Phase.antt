@@ -21,8 +21,8 @@ pub job-taken : (Answer : List Letter → List Letter → Type 0) {w old : List 
     → x .job .handed .refusal ≡ Accepted
 job-taken Answer x e = sym (ap (λ (y : Wrote). y .0) (x .is)) ∙ e
 
-module _ (u u′ : List Letter) {old old′ : List ℕ} {r r′ : Wrote} (x : Writes DropsPhase (bytes u) old r) (x′ : Writes DropsPhase (bytes u′) old′ r′)
-    (e : r .0 ≡ Accepted) (e′ : r′ .0 ≡ Accepted) where
+module _ (u u′ : List Letter) {old old′ : List ℕ} {r r′ : Wrote}
+    (x : Writes DropsPhase (bytes u) old r) (x′ : Writes DropsPhase (bytes u′) old′ r′) (e : r .0 ≡ Accepted) (e′ : r′ .0 ≡ Accepted) where
   pub exports-written-by-omega : textOf r ≡ textOf r′ → ByOmega (word u) (word u′)
   exports-written-by-omega s =
       written-by-omega u u′ (x .outcome) (x′ .outcome) (job-taken DropsPhase x e) (job-taken DropsPhase x′ e′)
@@ -44,8 +44,9 @@ bytesIn r = getD (r .1 .0) 1 0
 abbrev pub teesIn : Wrote → ℕ
 teesIn r = getD (r .1 .0) 2 0
 
-pub exports-beside : (u : List Letter) {old old′ : List ℕ} {r r′ : Wrote} → Writes Normalises (bytes u) old r → Writes DropsPhase (bytes u) old′ r′
-    → r .0 ≡ Accepted → r′ .0 ≡ Accepted → (teesIn r′ ≡ teesIn r) × (bytesIn r′ ≤ bytesIn r)
+pub exports-beside : (u : List Letter) {old old′ : List ℕ} {r r′ : Wrote}
+    → Writes Normalises (bytes u) old r → Writes DropsPhase (bytes u) old′ r′ → r .0 ≡ Accepted → r′ .0 ≡ Accepted
+    → (teesIn r′ ≡ teesIn r) × (bytesIn r′ ≤ bytesIn r)
 exports-beside u x x′ e e′ =
     let b = counts-beside u (x .outcome) (x′ .outcome) (job-taken Normalises x e) (job-taken DropsPhase x′ e′) in
     (ap teesIn (x′ .is) ∙ b .0 ∙ sym (ap teesIn (x .is)), omega (arith, b .1, ap bytesIn (x .is), ap bytesIn (x′ .is)))

@@ -10,7 +10,7 @@ use Rattle.exact.specs.Meaning.Word.{Spelled}
 use Rattle.exact.specs.Meaning.Cheapest.{Cheapest}
 use Rattle.exact.specs.Meaning.Limits.{Accepted}
 use Rattle.exact.specs.Meaning.Lent.{lent, Writes}
-use Rattle.exact.specs.Matrices.Determinant.{tees-n}
+use Rattle.exact.specs.Matrices.Parity.{tees-n}
 use Rattle.exact.specs.Matrices.Same.{Same-sym}
 use Rattle.exact.specs.Unique.Cheapest.{normal-cheapest}
 use Rattle.ring.specs.declared.ZOmega.{ZOmega}

@@ -1,25 +1,19 @@
--- Determinants: that of a product is the product, a letter's is a power of omega, odd for T alone, and a unitary triple's is omega to the n. So the
--- number of T letters of all words with one matrix, up to a power of omega, is even or odd as n is. Assumes nothing.
+-- Determinants: that of a product is the product, one matrix has one, and a letter's is a power of omega, odd for T alone. Assumes nothing.
 use mathlib.Core.Path.{_≡_, refl, sym, _∙_, ap, ap₂}
 use mathlib.Core.List.{List, [], _∷_}
 use Prim.Native.Nat.{ℕ, _+_, _%_}
 use native.Mathlib.Omega.{arith}
-use Rattle.exact.specs.Meaning.Number.{Ops, Ω, ints, omegas, mulQ, conjQ, omega^, root2^}
-use Rattle.exact.specs.Meaning.Matrix.{Mat, mulM, scaleM, Matrix, unit, _·_, Same, scaled, ByOmega}
+use Rattle.exact.specs.Meaning.Number.{Ops, Ω, ints, omegas, mulQ, omega^, root2^}
+use Rattle.exact.specs.Meaning.Matrix.{Mat, mulM, scaleM, Matrix, _·_, Same, scaled}
 use Rattle.exact.specs.Meaning.Word.{Letter, I, H, S, X, W, T′, letter, word, tee, tees}
-use Rattle.exact.specs.Meaning.Triple.{Triple, entries, Unitary}
 use Rattle.exact.specs.Algebra.Ring.{Laws}
-use Rattle.exact.specs.Algebra.Solver.{Expr, var, _⊕_, _⊗_, ⊖, exprs, solve, ring₃, ring₄}
+use Rattle.exact.specs.Algebra.Solver.{var, _⊗_, exprs, solve, ring₃, ring₄}
 use Rattle.exact.specs.Algebra.Omega.{omegas-laws, root2^-add, root2^-cancel}
 use Rattle.exact.specs.Algebra.OmegaPower.{omega^-add, omega^-same}
-use Rattle.exact.specs.Algebra.Norm.{unitary-equation, two^}
 use Rattle.exact.specs.Matrices.Laws.{M₀, M₁, entriesOf}
-use Rattle.exact.specs.Matrices.Star.{Same-isometry}
-use Rattle.exact.specs.Matrices.Words.{word-isometry}
-use Rattle.exact.specs.Matrices.Triples.{isometry-unitary}
 
 module _ (O : Ops) where
-  abbrev detM : Mat (O .Car) → O .Car
+  abbrev pub detM : Mat (O .Car) → O .Car
   detM x = O .add (O .mul (x .p) (x .s)) (O .neg (O .mul (x .q) (x .r)))
 
 module _ (O : Ops) (L : Laws O) where
@@ -39,24 +33,25 @@ mul-det {x} {y} {m} {n} h k =
       is =
           det-mul omegas omegas-laws (x .m) (y .m)
           ∙ ap₂ (mulQ ints) (h .is) (k .is)
-          ∙ ring₄ omegas omegas-laws (λ a b c d. ((a ⊗ a) ⊗ c) ⊗ ((b ⊗ b) ⊗ d)) (λ a b c d. ((a ⊗ b) ⊗ (a ⊗ b)) ⊗ (c ⊗ d)) tt (root2^ (x .e))
-          (root2^ (y .e)) (omega^ m) (omega^ n)
+          ∙ ring₄ omegas omegas-laws (λ a b c d. ((a ⊗ a) ⊗ c) ⊗ ((b ⊗ b) ⊗ d)) (λ a b c d. ((a ⊗ b) ⊗ (a ⊗ b)) ⊗ (c ⊗ d)) tt
+          (root2^ (x .e)) (root2^ (y .e)) (omega^ m) (omega^ n)
           ∙ sym (ap₂ (λ r c. mulQ ints (mulQ ints r r) c) (root2^-add (x .e) (y .e)) (omega^-add m n));
     }
 
-scaled-det : (k : ℕ) {x : Matrix} {n : ℕ} → Det x n → Det (scaled (omega^ k) x) (k + k + n)
+pub scaled-det : (k : ℕ) {x : Matrix} {n : ℕ} → Det x n → Det (scaled (omega^ k) x) (k + k + n)
 scaled-det k {x} {n} h =
     record {
       is =
           det-scale omegas omegas-laws (omega^ k) (x .m)
           ∙ ap (mulQ ints (mulQ ints (omega^ k) (omega^ k))) (h .is)
-          ∙ ring₃ omegas omegas-laws (λ c r d. (c ⊗ c) ⊗ ((r ⊗ r) ⊗ d)) (λ c r d. (r ⊗ r) ⊗ ((c ⊗ c) ⊗ d)) tt (omega^ k) (root2^ (x .e)) (omega^ n)
+          ∙ ring₃ omegas omegas-laws (λ c r d. (c ⊗ c) ⊗ ((r ⊗ r) ⊗ d)) (λ c r d. (r ⊗ r) ⊗ ((c ⊗ c) ⊗ d)) tt
+          (omega^ k) (root2^ (x .e)) (omega^ n)
           ∙ sym (ap (mulQ ints (mulQ ints (root2^ (x .e)) (root2^ (x .e))))
           (omega^-add (k + k) n ∙ ap (λ c. mulQ ints c (omega^ n)) (omega^-add k k)));
     }
 
 -- one matrix, one power
-same-det : {x y : Matrix} {m n : ℕ} → Same x y → Det x m → Det y n → m % 8 ≡ n % 8
+pub same-det : {x y : Matrix} {m n : ℕ} → Same x y → Det x m → Det y n → m % 8 ≡ n % 8
 same-det {x} {y} {m} {n} h p q =
     omega^-same m n (strike (x .e) (strike (x .e) (strike (y .e) (strike (y .e) whole))))
   where
@@ -113,30 +108,10 @@ abbrev eighthsOf : List Letter → ℕ
 eighthsOf [] = 0
 eighthsOf (l ∷ u) = eighths l + eighthsOf u
 
-word-det : (u : List Letter) → Det (word u) (eighthsOf u)
+pub word-det : (u : List Letter) → Det (word u) (eighthsOf u)
 word-det [] = record { is = refl }
 word-det (l ∷ u) = mul-det (letter-det l) (word-det u)
 
-odd-for-tees : (u : List Letter) → eighthsOf u % 2 ≡ tees u % 2
+pub odd-for-tees : (u : List Letter) → eighthsOf u % 2 ≡ tees u % 2
 odd-for-tees [] = refl
 odd-for-tees (l ∷ u) = omega (arith, odd-for-T l, odd-for-tees u)
-
--- ---- the parity of the T letters
-pub same-parity : (u v : List Letter) → ByOmega (word u) (word v) → tees u % 2 ≡ tees v % 2
-same-parity u v h =
-    omega (arith, odd-for-tees u, odd-for-tees v, same-det (h .same) (word-det u) (scaled-det (h .power) (word-det v)))
-
--- ---- a unitary triple's determinant
-triple-det : {t : Triple} → Unitary t → Det (entries t) (t .n)
-triple-det {t} u =
-    record {
-      is =
-          solve omegas omegas-laws (t .z ∷ conjQ ints (t .z) ∷ t .w ∷ conjQ ints (t .w) ∷ omega^ (t .n) ∷ [])
-          ((var 0 ⊗ (var 1 ⊗ var 4)) ⊕ ⊖ (⊖ (var 3 ⊗ var 4) ⊗ var 2)) (((var 0 ⊗ var 1) ⊕ (var 2 ⊗ var 3)) ⊗ var 4) tt
-          ∙ ap (λ c. mulQ ints c (omega^ (t .n))) (unitary-equation u ∙ two^ (t .k));
-    }
-
--- every triple with a word's matrix is unitary
-pub tees-n : (u : List Letter) (t : Triple) → Same (word u) (entries t) → tees u % 2 ≡ t .n % 2
-tees-n u t h =
-    omega (arith, odd-for-tees u, same-det {n = t .n} h (word-det u) (triple-det (isometry-unitary (Same-isometry h (word-isometry u)))))

@@ -11,7 +11,7 @@ use Rattle.exact.specs.Meaning.Normal.{NormalOf, PhaseFreeOf}
 use Rattle.exact.specs.Meaning.Cheapest.{Cheapest, NoCheaper}
 use Rattle.exact.specs.Matrices.Same.{Same-refl, Same-of, Same-sym, Same-trans}
 use Rattle.exact.specs.Matrices.Phase.{scaled-same, omega-one}
-use Rattle.exact.specs.Matrices.Determinant.{same-parity}
+use Rattle.exact.specs.Matrices.Parity.{same-parity}
 use Rattle.exact.specs.Rotation.Laws.{rotation-word, rotation-phase, rotation-moved}
 use Rattle.exact.specs.Rotation.Least.{normal-least, none-fewer}
 use Rattle.exact.specs.Unique.PhaseFree.{phase-free-tees, phase-free-own, same-by-omega}
