@@ -72,9 +72,9 @@ uint8_t dunrossel_reduce(int64_t k, uint8_t n, const int64_t zw[8], int64_t out[
 uint8_t dunrossel_matrix(const uint8_t *word, size_t len, int64_t out[10], uint64_t *place);
 
 /* Writes the normal word with the matrix of a word's letters (I H S X W T) into buf; DUNROSSEL_NORMAL bytes always do. The
- * same matrix gives the same bytes, and no word has fewer T; so a normal word of at most 4,096 letters is given back as it
- * is, and an I put in anywhere changes nothing. An answer may itself have more than 4,096 letters: handed in again it is
- * refused 1. out: place of a refusal 2 (else 0), bytes written, T letters written.
+ * same matrix gives the same bytes, and no word with it, of any length, has fewer T; so a normal word of at most 4,096 letters
+ * is given back as it is, and an I put in anywhere changes nothing. An answer may itself have more than 4,096 letters: handed
+ * in again it is refused 1. out: place of a refusal 2 (else 0), bytes written, T letters written.
  * Refuses 1, 2, 7. */
 uint8_t dunrossel_normalise(const uint8_t *word, size_t len, uint8_t *buf, size_t room, uint64_t out[3]);
 
@@ -101,8 +101,9 @@ uint8_t dunrossel_synthesise(int64_t k, uint8_t n, const int64_t zw[8], uint8_t 
 uint8_t dunrossel_synthesise_steps(int64_t k, uint8_t n, const int64_t zw[8], uint8_t *buf, size_t room, uint64_t out[4]);
 
 /* The number of T letters that dunrossel_synthesise writes for a matrix, reduced or not, worked out without making the word.
- * No word of any length with this matrix has fewer. *tees: that number. It is at most 2k, k reduced, where that k is over 0,
- * and else at most 1; so at most 120.
+ * No word of any length with this matrix has fewer, and all of them have an even number of T if this is even, else an odd
+ * one. *tees: that number. It is at most 2k, k reduced, where that k is over 0, and else at most 1; so at most 120. It is odd
+ * exactly where n is.
  * Refuses 3, 4, 5. */
 uint8_t dunrossel_t_count(int64_t k, uint8_t n, const int64_t zw[8], uint64_t *tees);
 
