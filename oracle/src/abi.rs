@@ -537,6 +537,11 @@ pub fn handed() -> Vec<u8> {
     STATE.with_borrow_mut(|s| s.handed())
 }
 
+/// The number of T letters that it answered.
+pub fn counted() -> u64 {
+    STATE.with_borrow_mut(|s| u64::read(&s.library.memory()[OUT + 16..OUT + 24]))
+}
+
 /// A word written as a circuit, or a circuit's text read.
 pub fn circuit(job: Job, input: &[u8], room: usize, expected: &Written) -> Option<String> {
     writes::<2>(job, room, expected, input, &word_args(input, room))

@@ -5,6 +5,7 @@
 //!     compare --sample DIR         writes the replay sample to DIR/stdin and DIR/stdout
 
 mod abi;
+mod cheapest_runs;
 mod circuit_runs;
 mod circuits;
 mod cliffords;
@@ -60,6 +61,9 @@ fn every_run(report: &mut Report) {
     timed(report, "phase-free words of every word of up to 5 letters", |r| phase_runs::every_word(r, 5));
     timed(report, "phase-free words of random words and their changes", |r| phase_runs::changed(r, 10_000, 100));
     timed(report, "phase-free words of long words and their changes", |r| phase_runs::changed(r, 500, LONGEST));
+    timed(report, "no cheaper spelling among every word of up to 7 letters", |r| cheapest_runs::every_word(r, 7));
+    timed(report, "dear spellings", |r| cheapest_runs::dearer(r, 10_000, 60));
+    timed(report, "long dear spellings", |r| cheapest_runs::dearer(r, 1000, 1300));
     timed(report, "triples at the edges", runs::triple_edges);
     timed(report, "triples of up to 4 T", |r| runs::few_t(r, 4));
     timed(report, "random triples to exponent 60", |r| runs::deep(r, 60));

@@ -171,16 +171,21 @@ pub fn written(report: &mut Report, word: &[u8], normal: &Normal, which: Rooms) 
 }
 
 pub fn job_3(report: &mut Report, word: &[u8], normal: &Normal, which: Rooms) {
-    let [kind_3, _] = normal.kinds();
+    let [kind, _] = normal.kinds();
     for room in rooms(which, normal.word.len(), word.len() + normal.word.len()) {
-        let expected = Written::of(&normal.word).fitting(room);
-        let kind = if expected.refusal == 7 { "job 3 normalise: refused 7 Room" } else { kind_3 };
-        if normal.arm && expected.refusal == 0 {
+        if normal.arm && normal.word.len() <= room {
             report.first(kind, || format!("{} gives {}", name(word), name(&normal.word)));
         }
-        let at = |d: String| format!("room {room}: {d}");
-        case(report, word, WITH_I[1], kind, abi::normalise(word, room, &expected).map(at));
+        job_3_is(report, word, kind, &normal.word, room);
     }
+}
+
+/// Job 3 on an accepted word whose normal word is said.
+pub fn job_3_is(report: &mut Report, word: &[u8], kind: &'static str, normal: &[u8], room: usize) {
+    let expected = Written::of(normal).fitting(room);
+    let kind = if expected.refusal == 7 { "job 3 normalise: refused 7 Room" } else { kind };
+    let at = |d: String| format!("room {room}: {d}");
+    case(report, word, WITH_I[1], kind, abi::normalise(word, room, &expected).map(at));
 }
 
 pub fn job_5(report: &mut Report, word: &[u8], normal: &Normal, which: Rooms) {
