@@ -4,7 +4,7 @@
 use crate::exact::Matrix;
 use crate::inputs::{Triple, ENOUGH};
 use crate::library::{Library, Word, IN, LENT, OUT, PLACE};
-use crate::rotation_faults;
+use crate::{rotation_faults, tee_faults};
 use std::cell::RefCell;
 
 const GUARD: usize = 32;
@@ -67,9 +67,10 @@ pub const JOBS: [Job; 16] = [
 
 impl Job {
     /// The faults whose answers are planted as a whole.
-    pub fn faults(self) -> &'static [Fault] {
+    pub const fn faults(self) -> &'static [Fault] {
         match self {
-            Job::PhaseFree => &[Fault::Nothing, Fault::Identity, Fault::Phase, Fault::Room, Fault::Stale],
+            Job::Normalise => tee_faults::OF_TEES,
+            Job::PhaseFree => &tee_faults::OF_PHASE_FREE,
             Job::SynthesiseSteps => &[Fault::Unreduced, Fault::More, Fault::Tees, Fault::Kept, Fault::Stale],
             Job::TCount => rotation_faults::OF_COUNTS,
             Job::Rotation => &rotation_faults::OF_ROTATIONS,
@@ -90,7 +91,7 @@ pub enum Part {
     Whole(Fault),
 }
 
-/// What a faulty job 5 would answer, a faulty count of job 4's steps, a faulty T count or rotation.
+/// What a faulty job 5 would answer, a faulty count of T letters or of job 4's steps, a faulty T count or rotation.
 #[derive(Clone, Copy, PartialEq, Eq, Debug)]
 pub enum Fault {
     /// Job 5: an empty tail written as nothing.
@@ -101,9 +102,17 @@ pub enum Fault {
     Phase,
     /// Job 5: an answer a byte too long taken for one that fits, its I not counted.
     Room,
+    /// Jobs 3 and 5, from here to Own, the number of T letters alone: with the S letters.
+    Esses,
+    /// Two too many, which leaves them odd or even.
+    TwoMore,
+    /// One too few.
+    Fewer,
+    /// Those of the word that was read.
+    Own,
     /// Job 4: a step more for each exponent that is lowered before the first.
     Unreduced,
-    /// Job 4: a step too many. A T too many; a rotation over a power of root two one higher than the least.
+    /// Job 4: a step too many. Jobs 3 and 5, T count: a T too many; a rotation over a power of root two one higher than the least.
     More,
     /// Job 4: the T letters for steps.
     Tees,
@@ -202,6 +211,9 @@ impl State {
         }
         let right = self.answer(job);
         let wrong = match job {
+            Job::Normalise | Job::PhaseFree if tee_faults::OF_TEES.contains(&fault) => {
+                return self.faulty_tees(fault, &right, args).map(Wrong::Numbers);
+            }
             Job::PhaseFree => Written::of(&self.faulty_word(fault, &right, args)?),
             _ => Written { steps: self.faulty_steps(fault, &right, args)?, ..right.clone() },
         };
@@ -222,6 +234,15 @@ impl State {
             Fault::Stale if accepted => Some(self.before.replace(right.clone())?.word),
             _ => None,
         }
+    }
+
+    /// The place and the length, which are right, and a wrong number of T letters.
+    fn faulty_tees(&mut self, fault: Fault, right: &Written, args: &[Word]) -> Option<Vec<i64>> {
+        let Word::Number(len) = args[1] else { unreachable!() };
+        let read = &self.library.memory()[IN..IN + len as usize];
+        let [place, bytes, tees, _] = right.numbers();
+        let wrong = tee_faults::of(fault, read, &right.word)?;
+        (right.refusal == 0 && wrong != tees).then(|| [place, bytes, wrong].map(|x| x as i64).to_vec())
     }
 
     /// The steps that stand beside the right word, or in its refusal.

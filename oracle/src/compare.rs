@@ -29,6 +29,7 @@ mod rust;
 mod sample;
 mod sample_circuits;
 mod sample_rotations;
+mod tee_faults;
 mod triples;
 mod view;
 mod words;
@@ -124,6 +125,7 @@ fn usage() -> ExitCode {
     eprintln!("JOB: reduce matrix normalise phasefree synthesise product inverse coset view bench");
     eprintln!("     qasm2write qasm3write qasmread synthesisesteps tcount rotation");
     eprintln!("PART: refusal, number, byte, beyond, after; of phasefree also nothing, identity, phase, room, stale,");
+    eprintln!("     of normalise and phasefree esses, more, twomore, fewer, own,");
     eprintln!("     of synthesisesteps unreduced, more, tees, kept, stale, of tcount and rotation exponent, twice,");
     eprintln!("     more, oneaxis, unturned, kept, unwritten, stale, of rotation transpose, mirror");
     ExitCode::from(2)

@@ -1,12 +1,12 @@
 //! Wrong answers planted one at a time, in every part of every job's answer, and those of a faulty job 5, of faulty steps
-//! of job 4, of faulty T counts and of faulty rotations: each must be found.
+//! of job 4, of faulty counts of T letters, of faulty T counts and of faulty rotations: each must be found.
 
 use crate::abi::{planted_on, set_plant, Fault, Job, Part, Plant, JOBS};
 use crate::circuit_runs;
 use crate::inputs::cliffords;
 use crate::records::record;
 use crate::report::Report;
-use crate::{phase_runs, rotation_runs, runs};
+use crate::{cheapest_runs, phase_runs, rotation_faults, rotation_runs, runs, tee_faults};
 use std::collections::BTreeSet;
 
 /// From JOB:CALL:PART.
@@ -68,24 +68,84 @@ fn small_run(report: &mut Report) {
     }
 }
 
-/// A job that faulty answers are planted in, a few calls of it, how the kinds begin under which its model tells, and at
-/// which of the calls that a fault changes it is planted: one in so many.
+/// A job, what is planted in it, a few calls of it, and how the kinds begin under which each must be told, one for each
+/// beginning. It is planted at one in so many of the calls that a fault changes.
 struct Faulty {
+    what: &'static str,
     job: Job,
+    faults: &'static [Fault],
     few: fn(&mut Report),
-    kinds: &'static str,
+    kinds: &'static [&'static str],
     one_in: usize,
 }
 
-const PHASES: Faulty = Faulty { job: Job::PhaseFree, few: phase_runs::few, kinds: "job 5 phase-free", one_in: 5 };
-const STEPS: Faulty =
-    Faulty { job: Job::SynthesiseSteps, few: runs::few_triples, kinds: "job 4 with steps", one_in: 1 };
-const COUNTS: Faulty = Faulty { job: Job::TCount, few: rotation_runs::few, kinds: "T count:", one_in: 1 };
-const ROTATIONS: Faulty = Faulty { job: Job::Rotation, few: rotation_runs::few, kinds: "rotation:", one_in: 1 };
+/// By the model of the job alone.
+const BY_MODEL: [Faulty; 4] = [
+    Faulty {
+        what: "a faulty job 5 answers",
+        job: Job::PhaseFree,
+        faults: tee_faults::OF_BYTES,
+        few: phase_runs::few,
+        kinds: &["job 5 phase-free"],
+        one_in: 5,
+    },
+    Faulty {
+        what: "faulty steps of job 4",
+        job: Job::SynthesiseSteps,
+        faults: Job::SynthesiseSteps.faults(),
+        few: runs::few_triples,
+        kinds: &["job 4 with steps"],
+        one_in: 1,
+    },
+    Faulty {
+        what: "faulty T counts",
+        job: Job::TCount,
+        faults: rotation_faults::OF_COUNTS,
+        few: rotation_runs::few,
+        kinds: &["T count:"],
+        one_in: 1,
+    },
+    Faulty {
+        what: "faulty rotations",
+        job: Job::Rotation,
+        faults: &rotation_faults::OF_ROTATIONS,
+        few: rotation_runs::few,
+        kinds: &["rotation:"],
+        one_in: 1,
+    },
+];
+
+/// By the model, and by a dearer or a cheaper spelling too.
+const BY_SPELLINGS: [Faulty; 3] = [
+    Faulty {
+        what: "faulty counts of job 3's T letters",
+        job: Job::Normalise,
+        faults: tee_faults::OF_TEES,
+        few: cheapest_runs::few,
+        kinds: &["job 3 normalise", cheapest_runs::KINDS],
+        one_in: 1,
+    },
+    Faulty {
+        what: "faulty counts of job 5's T letters",
+        job: Job::PhaseFree,
+        faults: tee_faults::OF_TEES,
+        few: cheapest_runs::few,
+        kinds: &["job 5 phase-free", cheapest_runs::KINDS],
+        one_in: 1,
+    },
+    Faulty {
+        what: "faulty T counts of matrices whose words are listed",
+        job: Job::TCount,
+        faults: rotation_faults::OF_ACCEPTED,
+        few: cheapest_runs::few,
+        kinds: &["T count:", cheapest_runs::KINDS],
+        one_in: 1,
+    },
+];
 
 impl Faulty {
-    /// One fault until there is no call left that it changes: how many were planted, and found by the model. `checks`
-    /// gets the names of all that found one.
+    /// One fault until there is no call left that it changes: how many were planted, and told under each beginning.
+    /// `checks` gets the names of all that found one.
     fn fault(&self, fault: Fault, checks: &mut BTreeSet<String>) -> [u32; 2] {
         let (mut planted, mut found) = (0, 0);
         for call in (1..).step_by(self.one_in) {
@@ -94,7 +154,8 @@ impl Faulty {
             (self.few)(&mut report);
             let Some(input) = planted_on() else { break };
             planted += 1;
-            if report.differing.iter().any(|kind| kind.starts_with(self.kinds)) {
+            let told = |begin: &&str| report.differing.iter().any(|kind| kind.starts_with(begin));
+            if self.kinds.iter().all(told) {
                 found += 1;
             } else {
                 println!("planted in {:?} call {call} {fault:?}: not found, {}", self.job, input.escape_ascii());
@@ -105,28 +166,25 @@ impl Faulty {
         [planted, found]
     }
 
-    /// Whether each fault of the job was planted, and found whenever it was; how often, in words.
-    fn faults(&self, checks: &mut BTreeSet<String>) -> (bool, String) {
-        let each: Vec<[u32; 2]> = self.job.faults().iter().map(|fault| self.fault(*fault, checks)).collect();
+    /// Whether each fault was planted, and found whenever it was; prints how often.
+    fn each(&self, checks: &mut BTreeSet<String>) -> bool {
+        let each: Vec<[u32; 2]> = self.faults.iter().map(|fault| self.fault(*fault, checks)).collect();
         let [planted, found] = [0, 1].map(|i| each.iter().map(|both| both[i]).sum::<u32>());
-        (planted == found && each.iter().all(|both| both[0] > 0), format!("{planted}; found: {found}"))
+        println!("planted as {}: {planted}; found: {found}", self.what);
+        planted == found && each.iter().all(|both| both[0] > 0)
     }
 }
 
 fn faults() -> bool {
     let mut checks = BTreeSet::new();
-    let (phases, counts) = PHASES.faults(&mut checks);
-    println!("planted as a faulty job 5 answers: {counts}");
-    let (steps, counts) = STEPS.faults(&mut checks);
-    println!("planted as faulty steps of job 4: {counts}");
-    let (tees, counts) = COUNTS.faults(&mut checks);
-    println!("planted as faulty T counts: {counts}");
-    let (rotations, counts) = ROTATIONS.faults(&mut checks);
-    println!("planted as faulty rotations: {counts}");
-    let all = phase_runs::CHECKS.iter().chain(&rotation_runs::CHECKS);
+    let mut right = true;
+    for faulty in BY_MODEL.iter().chain(&BY_SPELLINGS) {
+        right &= faulty.each(&mut checks);
+    }
+    let all = phase_runs::CHECKS.iter().chain(&rotation_runs::CHECKS).chain(&cheapest_runs::CHECKS);
     let idle: Vec<_> = all.filter(|check| !checks.contains(**check)).collect();
     println!("checks besides that found none of these: {} {idle:?}", idle.len());
-    phases && steps && tees && rotations && idle.is_empty()
+    right && idle.is_empty()
 }
 
 pub fn all() -> bool {

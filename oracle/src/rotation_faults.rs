@@ -21,6 +21,9 @@ pub const OF_ROTATIONS: [Fault; 10] = [
 /// A T count is a rotation's exponent, which the last two leave as it is.
 pub const OF_COUNTS: &[Fault] = OF_ROTATIONS.split_at(8).0;
 
+/// Those that need neither a refusal nor a call before.
+pub const OF_ACCEPTED: &[Fault] = OF_ROTATIONS.split_at(5).0;
+
 /// The least of eight entries is not among them: over a power above 0 four p are odd, two in each of two columns, so that it
 /// is no fault to leave one entry out.
 pub fn of(fault: Fault, (k, n, zw): &Triple) -> Option<Rotation> {

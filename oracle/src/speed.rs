@@ -14,12 +14,15 @@ mod library;
 mod plain;
 #[allow(dead_code)]
 mod rotation;
+#[allow(dead_code)]
 mod rotation_faults;
 #[allow(dead_code)]
 mod rust;
 mod speed_circuits;
 mod speed_cliffords;
 mod speed_rotations;
+#[allow(dead_code)]
+mod tee_faults;
 
 use inputs::{Random, Triple, LETTERS, PLAIN};
 use library::c;
