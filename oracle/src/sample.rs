@@ -2,6 +2,7 @@
 //! has the format.
 
 use crate::abi::Written;
+use crate::cheapest_runs::{dear, normal, IDENTITIES};
 use crate::inputs::{self, cliffords, normal_word, raised, Random, Triple, LETTERS, LONGEST, PLAIN};
 use crate::report::Report;
 use crate::runs::triple_of;
@@ -215,6 +216,18 @@ fn phases(s: &mut Sample) {
     }
 }
 
+/// Words of the identity that have T letters; normal words made dearer, and given back themselves.
+fn dear_spellings(s: &mut Sample) {
+    IDENTITIES.iter().for_each(|w| s.normalise(w, 0));
+    let mut random = Random::new(41);
+    for count in [0, 1, 2, 3, 5, 8, 13, 21, 34, 55, 1300] {
+        let normal = normal(&mut random, count);
+        let dear = dear(&mut random, &normal);
+        s.normalise(&dear, 0);
+        s.normalise(&normal, 0);
+    }
+}
+
 /// Every entry of the reader's table that a word can reach: each Clifford behind an even number of letters, then each
 /// letter alone, each two letters, and behind each syllable those that bring a T to it.
 fn pairs(s: &mut Sample) {
@@ -312,6 +325,7 @@ pub fn write(folder: &str) -> ExitCode {
     all_cliffords(&mut s);
     sample_circuits::all(&mut s);
     sample_rotations::all(&mut s);
+    dear_spellings(&mut s);
     if s.report.unexplained > 0 {
         return ExitCode::FAILURE;
     }
