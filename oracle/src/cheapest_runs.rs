@@ -158,8 +158,8 @@ impl Classes {
     }
 }
 
-/// The T count of the matrix itself, which no word is needed for. T alone has an odd power of omega for its determinant,
-/// and that of a triple is omega to the n.
+/// The T count of the matrix itself, which no word is needed for. Of the letters T alone has an odd power of omega for
+/// its determinant, and that of a triple is omega to the n.
 fn from_matrix(report: &mut Report, key: &Key, class: &Class) {
     let Some(triple) = triple(key) else {
         return report.differs("exact arithmetic", format!("{}: no triple", class.answer.escape_ascii()));

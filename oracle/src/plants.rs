@@ -68,8 +68,8 @@ fn small_run(report: &mut Report) {
     }
 }
 
-/// A job, what is planted in it, a few calls of it, and how the kinds begin under which each must be told, one for each
-/// beginning. It is planted at one in so many of the calls that a fault changes.
+/// A job, the faults that are planted in it, a few calls of it, and how kinds begin: each fault must be told under a kind
+/// of every beginning. It is planted at one in so many of the calls that it changes.
 struct Faulty {
     what: &'static str,
     job: Job,
@@ -115,7 +115,7 @@ const BY_MODEL: [Faulty; 4] = [
     },
 ];
 
-/// By the model, and by a dearer or a cheaper spelling too.
+/// By the model, and by the checks of spellings alone.
 const BY_SPELLINGS: [Faulty; 3] = [
     Faulty {
         what: "faulty counts of job 3's T letters",
