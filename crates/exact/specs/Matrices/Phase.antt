@@ -1,17 +1,17 @@
--- A matrix times a number: the same of two that are the same; W letters behind a word are a power of omega. Assumes nothing.
+-- A matrix times a number: the same of two that are the same; powers of omega; W letters behind a word are one. Assumes nothing.
 use mathlib.Core.Path.{_≡_, refl, sym, _∙_, ap}
 use mathlib.Core.List.{List, _++_}
 use Prim.Native.Nat.{ℕ, zero, suc, _+_, _%_}
 use native.Mathlib.Nat.{add-zero}
 use native.Mathlib.Omega.{arith}
 use Rattle.exact.specs.Meaning.Number.{Ω, omegas, omega^, root2^}
-use Rattle.exact.specs.Meaning.Matrix.{unitM, scaleM, Matrix, unit, _·_, Same, scaled}
+use Rattle.exact.specs.Meaning.Matrix.{unitM, scaleM, Matrix, unit, _·_, Same, scaled, ByOmega}
 use Rattle.exact.specs.Meaning.Word.{Letter, W, letter, word}
 use Rattle.exact.specs.Meaning.Normal.{times}
 use Rattle.exact.specs.Algebra.Omega.{omegas-laws}
 use Rattle.exact.specs.Algebra.OmegaPower.{omega^-add, omega^-mod}
 use Rattle.exact.specs.Matrices.Laws.{mulM-unit, mulM-scale, scale-scale, scale-swap, scale-one}
-use Rattle.exact.specs.Matrices.Same.{matrix-path}
+use Rattle.exact.specs.Matrices.Same.{matrix-path, Same-of, Same-trans}
 use Rattle.exact.specs.Matrices.Words.{word-append}
 
 pub scaled-same : (c : Ω) {x y : Matrix} → Same x y → Same (scaled c x) (scaled c y)
@@ -26,6 +26,10 @@ scaled-same c {x} {y} h =
 -- ---- powers of omega
 pub omega-one : (x : Matrix) → scaled (omega^ 0) x ≡ x
 omega-one x = matrix-path (scale-one omegas omegas-laws (x .m)) refl
+
+-- the same matrix is omega to the 0 times it
+pub same-apart : {x y : Matrix} → Same x y → ByOmega x y
+same-apart {x} {y} h = record { power = 0; few = omega arith; same = Same-trans h (Same-of (sym (omega-one y))) }
 
 pub omega-twice : (m n : ℕ) (x : Matrix) → scaled (omega^ m) (scaled (omega^ n) x) ≡ scaled (omega^ (m + n)) x
 omega-twice m n x =

@@ -1,6 +1,6 @@
 -- No cheaper spelling: of all words with its matrix a normal word has the fewest T letters, and all have one parity; so too among the words whose
 -- matrix is the same but for a phase, and there for a phase-free word. Assumes nothing.
-use mathlib.Core.Path.{_≡_, refl, sym}
+use mathlib.Core.Path.{_≡_, refl}
 use mathlib.Core.List.{List}
 use Prim.Native.Nat.{_%_, _≤_}
 use native.Mathlib.Omega.{arith}
@@ -9,16 +9,12 @@ use Rattle.exact.specs.Meaning.Matrix.{Matrix, Same, scaled, ByOmega}
 use Rattle.exact.specs.Meaning.Word.{Letter, word, tees}
 use Rattle.exact.specs.Meaning.Normal.{NormalOf, PhaseFreeOf}
 use Rattle.exact.specs.Meaning.Cheapest.{Cheapest, NoCheaper}
-use Rattle.exact.specs.Matrices.Same.{Same-refl, Same-of, Same-sym, Same-trans}
-use Rattle.exact.specs.Matrices.Phase.{scaled-same, omega-one}
+use Rattle.exact.specs.Matrices.Same.{Same-refl, Same-sym, Same-trans}
+use Rattle.exact.specs.Matrices.Phase.{scaled-same, same-apart}
 use Rattle.exact.specs.Matrices.Parity.{same-parity}
 use Rattle.exact.specs.Rotation.Laws.{rotation-word, rotation-phase, rotation-moved}
 use Rattle.exact.specs.Rotation.Least.{normal-least, none-fewer}
 use Rattle.exact.specs.Unique.PhaseFree.{phase-free-tees, phase-free-own, same-by-omega}
-
--- the same matrix is omega to the 0 times it
-same-apart : {x y : Matrix} → Same x y → ByOmega x y
-same-apart {x} {y} h = record { power = 0; few = omega arith; same = Same-trans h (Same-of (sym (omega-one y))) }
 
 -- v is the normal word of m
 module _ {m : Matrix} {v : List Letter} (a : NormalOf m v) where

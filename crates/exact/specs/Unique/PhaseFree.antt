@@ -11,8 +11,8 @@ use Rattle.exact.specs.Meaning.Matrix.{Matrix, Same, scaled, ByOmega}
 use Rattle.exact.specs.Meaning.Word.{Letter, H, S, X, W, T′, word, tees}
 use Rattle.exact.specs.Meaning.Normal.{Syllable, HT, SHT, Tail, Shape, times, frontWord, tailWord, orI, after, leading, spell, Fits}
 use Rattle.exact.specs.Meaning.Normal.{Normal, noW, withoutW, PhaseFree, PhaseFreeOf}
-use Rattle.exact.specs.Matrices.Same.{Same-of, Same-sym, Same-trans}
-use Rattle.exact.specs.Matrices.Phase.{scaled-same, omega-one, omega-twice, omega-mod, ws-behind}
+use Rattle.exact.specs.Matrices.Same.{Same-refl, Same-of, Same-sym, Same-trans}
+use Rattle.exact.specs.Matrices.Phase.{scaled-same, same-apart, omega-twice, omega-mod, ws-behind}
 use Rattle.exact.specs.Unique.Tails.{orI-tail-tees}
 use Rattle.exact.specs.Unique.Normal.{coreOf, spell-word, shape-unique}
 
@@ -171,4 +171,4 @@ module _ {x y : Matrix} {u v : List Letter} (p : PhaseFreeOf x u) (q : PhaseFree
 
 -- so a matrix has one phase-free word
 pub phase-free-once : {x : Matrix} {u v : List Letter} → PhaseFreeOf x u → PhaseFreeOf x v → u ≡ v
-phase-free-once {x} p q = by-omega-same p q (record { power = 0; few = omega arith; same = Same-of (sym (omega-one x)) })
+phase-free-once {x} p q = by-omega-same p q (same-apart (Same-refl x))
