@@ -4,7 +4,7 @@
 use crate::exact::Matrix;
 use crate::inputs::{Triple, ENOUGH};
 use crate::library::{Library, Word, IN, LENT, OUT, PLACE};
-use crate::{rotation_faults, tee_faults};
+use crate::{rotation_faults, word_faults};
 use std::cell::RefCell;
 
 const GUARD: usize = 32;
@@ -69,8 +69,8 @@ impl Job {
     /// The faults whose answers are planted as a whole.
     pub const fn faults(self) -> &'static [Fault] {
         match self {
-            Job::Normalise => tee_faults::OF_TEES,
-            Job::PhaseFree => &tee_faults::OF_PHASE_FREE,
+            Job::Normalise => word_faults::OF_TEES,
+            Job::PhaseFree => &word_faults::OF_PHASE_FREE,
             Job::SynthesiseSteps => &[Fault::Unreduced, Fault::More, Fault::Tees, Fault::Kept, Fault::Stale],
             Job::TCount => rotation_faults::OF_COUNTS,
             Job::Rotation => &rotation_faults::OF_ROTATIONS,
@@ -102,13 +102,13 @@ pub enum Fault {
     Phase,
     /// Job 5: an answer a byte too long taken for one that fits, its I not counted.
     Room,
-    /// Jobs 3 and 5, from here to Own, the number of T letters alone: with the S letters.
+    /// Jobs 3 and 5, the word right and its number of T letters wrong: the S letters counted too.
     Esses,
-    /// Two too many, which leaves them odd or even.
+    /// Jobs 3 and 5: two T too many, which leaves them odd or even.
     TwoMore,
-    /// One too few.
+    /// Jobs 3 and 5: a T too few.
     Fewer,
-    /// Those of the word that was read.
+    /// Jobs 3 and 5: the T letters of the word that was read.
     Own,
     /// Job 4: a step more for each exponent that is lowered before the first.
     Unreduced,
@@ -211,7 +211,7 @@ impl State {
         }
         let right = self.answer(job);
         let wrong = match job {
-            Job::Normalise | Job::PhaseFree if tee_faults::OF_TEES.contains(&fault) => {
+            Job::Normalise | Job::PhaseFree if word_faults::OF_TEES.contains(&fault) => {
                 return self.faulty_tees(fault, &right, args).map(Wrong::Numbers);
             }
             Job::PhaseFree => Written::of(&self.faulty_word(fault, &right, args)?),
@@ -241,7 +241,7 @@ impl State {
         let Word::Number(len) = args[1] else { unreachable!() };
         let read = &self.library.memory()[IN..IN + len as usize];
         let [place, bytes, tees, _] = right.numbers();
-        let wrong = tee_faults::of(fault, read, &right.word)?;
+        let wrong = word_faults::of(fault, read, &right.word)?;
         (right.refusal == 0 && wrong != tees).then(|| [place, bytes, wrong].map(|x| x as i64).to_vec())
     }
 

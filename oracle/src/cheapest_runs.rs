@@ -91,7 +91,9 @@ impl Class {
     /// Once all words are taken.
     fn ended(&self, report: &mut Report, checks: &Checks) {
         let same = self.count == Some(self.fewest);
-        report.holds(checks.fewest, same, || format!("{} {:?}", name(&self.answer, self.fewest), self.count));
+        report.holds(checks.fewest, same, || {
+            format!("{}: {} fewest, {:?} answered", self.answer.escape_ascii(), self.fewest, self.count)
+        });
     }
 }
 
@@ -99,7 +101,8 @@ impl Class {
 type Key = [i64; 17];
 
 fn key(matrix: &Matrix) -> Key {
-    let mut key = [matrix.k; 17];
+    let mut key = [0; 17];
+    key[0] = matrix.k;
     let numbers = matrix.e.iter().flat_map(|x| &x.0);
     key[1..].iter_mut().zip(numbers).for_each(|(at, x)| *at = x.to_i64().expect("a short word's coefficient"));
     key
@@ -149,12 +152,10 @@ impl Classes {
             from_matrix(report, key, class);
             let longer = without_identity(&class.answer).len() > most;
             report.note("no cheaper: of these matrices, those whose normal word is longer", longer as u64);
-            let dearer = Some(class.fewest) > class.count;
-            report.note("no cheaper: of these matrices, those with no word of as few T as job 3 counts", dearer as u64);
         }
         self.free.values().for_each(|class| class.ended(report, &OF_5));
-        report.note("no cheaper: matrices of the words of up to 7 letters", self.whole.len() as u64);
-        report.note("no cheaper: matrices of the words of up to 7 letters, but for a phase", self.free.len() as u64);
+        report.note("no cheaper: matrices of the short words", self.whole.len() as u64);
+        report.note("no cheaper: matrices of the short words, but for a phase", self.free.len() as u64);
     }
 }
 

@@ -29,9 +29,9 @@ mod rust;
 mod sample;
 mod sample_circuits;
 mod sample_rotations;
-mod tee_faults;
 mod triples;
 mod view;
+mod word_faults;
 mod words;
 
 use inputs::LONGEST;

@@ -6,7 +6,7 @@ use crate::circuit_runs;
 use crate::inputs::cliffords;
 use crate::records::record;
 use crate::report::Report;
-use crate::{cheapest_runs, phase_runs, rotation_faults, rotation_runs, runs, tee_faults};
+use crate::{cheapest_runs, phase_runs, rotation_faults, rotation_runs, runs, word_faults};
 use std::collections::BTreeSet;
 
 /// From JOB:CALL:PART.
@@ -84,7 +84,7 @@ const BY_MODEL: [Faulty; 4] = [
     Faulty {
         what: "a faulty job 5 answers",
         job: Job::PhaseFree,
-        faults: tee_faults::OF_BYTES,
+        faults: word_faults::OF_BYTES,
         few: phase_runs::few,
         kinds: &["job 5 phase-free"],
         one_in: 5,
@@ -120,7 +120,7 @@ const BY_SPELLINGS: [Faulty; 3] = [
     Faulty {
         what: "faulty counts of job 3's T letters",
         job: Job::Normalise,
-        faults: tee_faults::OF_TEES,
+        faults: word_faults::OF_TEES,
         few: cheapest_runs::few,
         kinds: &["job 3 normalise", cheapest_runs::KINDS],
         one_in: 1,
@@ -128,7 +128,7 @@ const BY_SPELLINGS: [Faulty; 3] = [
     Faulty {
         what: "faulty counts of job 5's T letters",
         job: Job::PhaseFree,
-        faults: tee_faults::OF_TEES,
+        faults: word_faults::OF_TEES,
         few: cheapest_runs::few,
         kinds: &["job 5 phase-free", cheapest_runs::KINDS],
         one_in: 1,

@@ -1,4 +1,5 @@
-//! The T count and the rotation of one triple, against its matrix by exact arithmetic and against job 4's word.
+//! The T count and the rotation of one triple, against its matrix by exact arithmetic and against its normal word, which job 4
+//! is held to as well.
 
 use crate::abi::{self, tees, Written};
 use crate::exact::Matrix;
@@ -15,7 +16,7 @@ pub fn numbers(report: &mut Report, triple: &Triple, answer: &Written) -> [i64; 
     }
 }
 
-/// The rotation of an accepted triple: that of its matrix. Job 4's word must turn the axes so, letter by letter, and its T letters
+/// The rotation of an accepted triple: that of its matrix. The normal word must turn the axes so, letter by letter, and its T letters
 /// be the least exponent.
 fn expected(report: &mut Report, triple: &Triple, word: &[u8]) -> Rotation {
     let (k, n, zw) = triple;
@@ -30,8 +31,8 @@ fn expected(report: &mut Report, triple: &Triple, word: &[u8]) -> Rotation {
 fn kinds(refusal: u8) -> [&'static str; 2] {
     match refusal {
         0 => [
-            "T count: the T letters of job 4's word, and the least exponent of the matrix's rotation",
-            "rotation: that of the matrix, and of job 4's word letter by letter",
+            "T count: the T letters of the normal word, and the least exponent of the matrix's rotation",
+            "rotation: that of the matrix, and of the normal word letter by letter",
         ],
         3 => ["T count: refused 3 Exponent", "rotation: refused 3 Exponent"],
         4 => ["T count: refused 4 Coefficient", "rotation: refused 4 Coefficient"],

@@ -216,7 +216,7 @@ fn phases(s: &mut Sample) {
     }
 }
 
-/// Words of the identity that have T letters; normal words made dearer, and given back themselves.
+/// Words of the identity that have T letters; normal words made dearer, and these normal words.
 fn dear_spellings(s: &mut Sample) {
     IDENTITIES.iter().for_each(|w| s.normalise(w, 0));
     let mut random = Random::new(41);

@@ -22,7 +22,7 @@ mod speed_circuits;
 mod speed_cliffords;
 mod speed_rotations;
 #[allow(dead_code)]
-mod tee_faults;
+mod word_faults;
 
 use inputs::{Random, Triple, LETTERS, PLAIN};
 use library::c;

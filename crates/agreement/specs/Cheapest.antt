@@ -1,6 +1,6 @@
 -- No cheaper spelling, over the exports: what an accepted call of dunrossel_normalise, dunrossel_synthesise, dunrossel_synthesise_steps or
--- dunrossel_phase_free leaves has the fewest T letters of all words with that matrix, for the last up to a phase, and all have their parity; so has a
--- word that the bench program prints; and the T count is such a number. Assumes nothing.
+-- dunrossel_phase_free leaves has the fewest T letters of all words with that matrix, up to a phase too, and all have their parity; so has a word that
+-- the bench program prints; and the T count is such a number. Assumes nothing.
 use mathlib.Core.Path.{_≡_, sym, _∙_, ap, subst}
 use mathlib.Core.List.{List}
 use Prim.Native.Nat.{ℕ, _%_}
@@ -13,8 +13,9 @@ use Rattle.exact.specs.Meaning.Cheapest.{Cheapest}
 use Rattle.exact.specs.Meaning.Limits as Limits
 use Rattle.exact.specs.Meaning.Limits.{Accepted}
 use Rattle.exact.specs.Meaning.Outcome.{Rung, none}
+use Rattle.exact.specs.Meaning.Lent as Lent
 use Rattle.exact.specs.Meaning.Lent.{Lent, lent}
-use Rattle.exact.specs.Meaning.Refusals.{checks}
+use Rattle.exact.specs.Meaning.Refusals.{handedIn, checks}
 use Rattle.exact.specs.Meaning.Record.{Numbers, RightRecord}
 use Rattle.exact.specs.Matrices.Parity.{tees-n}
 use Rattle.exact.specs.Matrices.Same.{Same-sym, Same-trans}
@@ -23,7 +24,7 @@ use Rattle.exact.specs.Outcomes.Ladder.{through}
 use Rattle.exact.specs.Outcomes.Checked.{checks-taken}
 use Rattle.exact.specs.Rotation.Laws.{rotation-moved}
 use Rattle.exact.specs.Rotation.Least.{normal-least, least-once}
-use Rattle.exact.specs.Unique.Cheapest.{normal-cheapest}
+use Rattle.exact.specs.Unique.Cheapest.{normal-cheapest, normal-cheapest-phase}
 use Rattle.ring.specs.Meaning.{quad}
 use Rattle.ring.specs.declared.ZOmega.{ZOmega}
 use Rattle.unitary.specs.Meaning.{given}
@@ -33,7 +34,7 @@ use Rattle.normal_form.specs.Cheapest.{normalise-cheapest, phase-free-cheapest-
 use Rattle.steps.specs.Steps.{letters}
 use Rattle.steps.specs.Synthesised.{synthesised}
 use Rattle.synthesis_of_clifford_t.specs.declared.Synthesis.{Synthesis}
-use Rattle.synthesis_of_clifford_t.specs.Meaning.{Spelling}
+use Rattle.synthesis_of_clifford_t.specs.Meaning.{Spelling, SpellingOf}
 use Rattle.synthesis_of_clifford_t.specs.OneMatrix.{seen}
 use Rattle.synthesis_of_clifford_t.specs.Cheapest.{synthesised-cheapest}
 use Rattle.rotation.specs.declared.Count.{Count}
@@ -42,7 +43,7 @@ use Rattle.rotation.specs.Answers.{counted}
 use Rattle.handed.specs.Meaning.{zOf, wOf, countsOf, stepsOf}
 use Rattle.dunrossel.specs.Meaning.Exports.{Writes, Synthesises}
 use Rattle.dunrossel.specs.Meaning.Bench as Bench
-use Rattle.dunrossel.specs.Meaning.Bench.{printed, wordText, NumbersOutcome, BenchOutcome}
+use Rattle.dunrossel.specs.Meaning.Bench.{printed, wordText, wordSize, NumbersOutcome, BenchOutcome}
 use Rattle.agreement.specs.Meaning.Exports.{Wrote}
 use Rattle.agreement.specs.Again.{textOf}
 use Rattle.agreement.specs.Phase.{teesIn, job-taken}
@@ -51,11 +52,14 @@ use Rattle.agreement.specs.Phase.{teesIn, job-taken}
 abbrev pub LeftCheapest : (Matrix → Matrix → Type 0) → Matrix → Wrote → Type 0
 LeftCheapest Like m r = Spelled (Cheapest Like m) (textOf r) (teesIn r)
 
+-- of a normal word both hold
+abbrev pub LeftNormal : Matrix → Wrote → Type 0
+LeftNormal m r = LeftCheapest Same m r × LeftCheapest ByOmega m r
+
 -- ---- words
 module _ (u : List Letter) {old : List ℕ} {r : Wrote} where
-  pub exports-normalise-cheapest : Writes Normalises (bytes u) old r → r .0 ≡ Accepted → LeftCheapest Same (word u) r
-  exports-normalise-cheapest x e =
-      subst (LeftCheapest Same (word u)) (sym (x .is)) (normalise-cheapest u (x .outcome) (job-taken Normalises x e))
+  pub exports-normalise-cheapest : Writes Normalises (bytes u) old r → r .0 ≡ Accepted → LeftNormal (word u) r
+  exports-normalise-cheapest x e = subst (LeftNormal (word u)) (sym (x .is)) (normalise-cheapest u (x .outcome) (job-taken Normalises x e))
 
   pub exports-phase-free-cheapest : Writes DropsPhase (bytes u) old r → r .0 ≡ Accepted → LeftCheapest ByOmega (word u) r
   exports-phase-free-cheapest x e =
@@ -69,37 +73,54 @@ module _ (k : ℤ) (n : ℕ) (zw : List ℤ) where
   -- `numbers` are what is handed back of job 4, the bytes and the T letters among them
   module _ {old : List ℕ} {r : Wrote} where
     of-job : (numbers : Synthesis → List ℕ)
-        → ((j : Lent Synthesis) → Spelled (Cheapest Same asked) (seen j .1) (j .handed .tees)
-        → LeftCheapest Same asked (j .handed .refusal, (numbers (j .handed), j .buffer)))
+        → ((j : Lent Synthesis)
+        → Spelled (Cheapest Same asked) (seen j .1) (j .handed .tees) × Spelled (Cheapest ByOmega asked) (seen j .1) (j .handed .tees)
+        → LeftNormal asked (j .handed .refusal, (numbers (j .handed), j .buffer)))
         → Synthesises numbers k n zw old r → r .0 ≡ Accepted
-        → LeftCheapest Same asked r
+        → LeftNormal asked r
     of-job numbers left x e =
-        subst (LeftCheapest Same asked) (sym (x .is))
+        subst (LeftNormal asked) (sym (x .is))
         (left (x .job)
         (synthesised-cheapest k n (zOf zw) (wOf zw) old (x .job .handed) (x .job .buffer) (x .outcome) (sym (ap (λ (y : Wrote). y .0) (x .is)) ∙ e)))
 
-    pub exports-synthesise-cheapest : Synthesises countsOf k n zw old r → r .0 ≡ Accepted → LeftCheapest Same asked r
+    pub exports-synthesise-cheapest : Synthesises countsOf k n zw old r → r .0 ≡ Accepted → LeftNormal asked r
     exports-synthesise-cheapest = of-job countsOf (λ j h. h)
 
-    pub exports-steps-cheapest : Synthesises stepsOf k n zw old r → r .0 ≡ Accepted → LeftCheapest Same asked r
+    pub exports-steps-cheapest : Synthesises stepsOf k n zw old r → r .0 ≡ Accepted → LeftNormal asked r
     exports-steps-cheapest = of-job stepsOf (λ j h. h)
 
 -- ---- what the bench program prints: a refusal, or a word of the record's matrix
-pub data Printed (s old : List ℕ) (r : Lent ℕ) : Type 0 where
-  no-word : (number : ℕ) → (number ≡ Accepted → ⊥) → r ≡ Bench.refused old number 0 → Printed s old r
-  a-word : (x : Numbers) → RightRecord s x → (a : Spelling) → Cheapest Same (Bench.asked x) (a .letters) (tees (a .letters))
-      → r ≡ printed old (wordText a)
-      → Printed s old r
+pub record Printed (x : Numbers) (old : List ℕ) (r : Lent ℕ) : Type 0 where
+  pub made : Spelling
+  pub is : r ≡ printed old (wordText made)
+  pub cheapest : Cheapest Same (Bench.asked x) (made .letters) (tees (made .letters))
+  pub cheapest-phase : Cheapest ByOmega (Bench.asked x) (made .letters) (tees (made .letters))
+  pub parity : tees (made .letters) % 2 ≡ x .n % 2
 
-pub bench-cheapest : (s old : List ℕ) (size : ℕ) (new : List ℕ) → BenchOutcome s old size new → Printed s old (lent size new)
+pub data Prints (s old : List ℕ) (r : Lent ℕ) : Type 0 where
+  no-word : (number : ℕ) → (number ≡ Accepted → ⊥) → r ≡ Bench.refused old number 0 → Prints s old r
+  a-word : (x : Numbers) → RightRecord s x → Printed x old r → Prints s old r
+
+of-answer : (x : Numbers) {old : List ℕ} {r : Lent ℕ} → Lent.Writes wordText wordSize (SpellingOf (Bench.asked x)) old r → Printed x old r
+of-answer x y =
+    let a = y .answer .normal in
+    record {
+      made = y .v;
+      is = y .is;
+      cheapest = normal-cheapest a;
+      cheapest-phase = normal-cheapest-phase a;
+      parity = tees-n (y .v .letters) (handedIn (x .k) (x .n) (x .z) (x .w)) (Same-sym (a .same));
+    }
+
+pub bench-cheapest : (s old : List ℕ) (size : ℕ) (new : List ℕ) → BenchOutcome s old size new → Prints s old (lent size new)
 bench-cheapest s old size new (Rung.given p t e) = no-word Limits.Record (λ h. omega (arith, h)) e
 bench-cheapest s old size new (Rung.passed f y) = of-numbers (y .numbers) (y .right) (y .outcome)
   where
-    of-numbers : (x : Numbers) → RightRecord s x → NumbersOutcome x old (lent size new) → Printed s old (lent size new)
+    of-numbers : (x : Numbers) → RightRecord s x → NumbersOutcome x old (lent size new) → Prints s old (lent size new)
     of-numbers x h (Rung.given p t e) = no-word Limits.Exponent (λ g. omega (arith, g)) e
     of-numbers x h (Rung.passed f (Rung.given p t e)) = no-word Limits.Coefficient (λ g. omega (arith, g)) e
     of-numbers x h (Rung.passed f (Rung.passed g (Rung.given p t e))) = no-word Limits.Unitary (λ i. omega (arith, i)) e
-    of-numbers x h (Rung.passed f (Rung.passed g (Rung.passed i y))) = a-word x h (y .v) (normal-cheapest (y .answer .normal)) (y .is)
+    of-numbers x h (Rung.passed f (Rung.passed g (Rung.passed i y))) = a-word x h (of-answer x y)
 
 -- ---- the T count
 -- some word is a cheapest spelling of the matrix, with t T letters

@@ -1,5 +1,5 @@
--- Jobs 3 and 5 write the cheapest spelling, through their outcomes: what an accepted call wrote has the fewest T letters of all words with the given
--- word's matrix, for job 5 up to a phase, the number handed back is theirs, and all such words have its parity. Assumes nothing.
+-- Jobs 3 and 5 write a cheapest spelling, through their outcomes: what an accepted call wrote has the fewest T letters of all words with the given
+-- word's matrix, up to a phase too, the number handed back is theirs, and all such words have its parity. Assumes nothing.
 use mathlib.Core.Path.{_≡_, sym, ap, subst}
 use mathlib.Core.List.{List}
 use Prim.Native.Nat.{ℕ}
@@ -9,7 +9,7 @@ use Rattle.exact.specs.Meaning.Word.{Letter, word, tees, bytes, Spelled}
 use Rattle.exact.specs.Meaning.Cheapest.{Cheapest}
 use Rattle.exact.specs.Meaning.Limits.{Accepted}
 use Rattle.exact.specs.Outcomes.Places.{of-bytes}
-use Rattle.exact.specs.Unique.Cheapest.{normal-cheapest, phase-free-cheapest}
+use Rattle.exact.specs.Unique.Cheapest.{normal-cheapest, normal-cheapest-phase, phase-free-cheapest}
 use Rattle.normal_form.specs.declared.Written.{Written}
 use Rattle.normal_form.specs.Meaning.{Normalises, DropsPhase, WordOutcome, NormaliseOutcome, PhaseFreeOutcome}
 use Rattle.normal_form.specs.Again.{answer-of, counted, bytes-written}
@@ -32,8 +32,11 @@ module _ (u : List Letter) {old : List ℕ} {r : Written} {new : List ℕ} where
             (cheapest (a .v) (of-bytes u (a .answer)));
       }
 
-  pub normalise-cheapest : NormaliseOutcome (bytes u) old r new → r .refusal ≡ Accepted → WroteCheapest Same u r new
-  normalise-cheapest = wrote-cheapest Normalises Same (λ v a. normal-cheapest a)
+  pub normalise-cheapest : NormaliseOutcome (bytes u) old r new → r .refusal ≡ Accepted → WroteCheapest Same u r new × WroteCheapest ByOmega u r new
+  normalise-cheapest o e = (
+    wrote-cheapest Normalises Same (λ v a. normal-cheapest a) o e,
+    wrote-cheapest Normalises ByOmega (λ v a. normal-cheapest-phase a) o e,
+  )
 
   pub phase-free-cheapest-5 : PhaseFreeOutcome (bytes u) old r new → r .refusal ≡ Accepted → WroteCheapest ByOmega u r new
   phase-free-cheapest-5 = wrote-cheapest DropsPhase ByOmega (λ v a. phase-free-cheapest a)

@@ -1,4 +1,4 @@
--- The number of T letters is even in all words with one matrix, up to a power of omega, or odd in all; for a triple's matrix it is odd where n is.
+-- The number of T letters is even in all words with one matrix, up to a power of omega, or odd in all; for a triple's matrix it is odd exactly where n is.
 -- Assumes nothing.
 use mathlib.Core.Path.{_≡_, _∙_, ap}
 use mathlib.Core.List.{List, [], _∷_}

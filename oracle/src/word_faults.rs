@@ -1,4 +1,4 @@
-//! What jobs 3 and 5 answer where they count the T letters of the word they wrote wrongly.
+//! The faults of jobs 3 and 5, and what they answer where they miscount the T letters of the word they wrote.
 
 use crate::abi::{tees, Fault};
 
