@@ -1,12 +1,12 @@
 -- No cheaper spelling: of all words with its matrix a normal word has the fewest T letters, and all have one parity; so too among the words whose
 -- matrix is the same but for a phase, and there for a phase-free word. Assumes nothing.
 use mathlib.Core.Path.{_≡_, refl}
-use mathlib.Core.List.{List}
-use Prim.Native.Nat.{_%_, _≤_}
+use mathlib.Core.List.{List, [], _∷_}
+use Prim.Native.Nat.{_+_, _%_, _≤_}
 use native.Mathlib.Omega.{arith}
 use Rattle.exact.specs.Meaning.Number.{omega^}
 use Rattle.exact.specs.Meaning.Matrix.{Matrix, Same, scaled, ByOmega}
-use Rattle.exact.specs.Meaning.Word.{Letter, word, tees}
+use Rattle.exact.specs.Meaning.Word.{Letter, S, T′, word, tees}
 use Rattle.exact.specs.Meaning.Normal.{NormalOf, PhaseFreeOf}
 use Rattle.exact.specs.Meaning.Cheapest.{Cheapest, NoCheaper}
 use Rattle.exact.specs.Matrices.Same.{Same-refl, Same-sym, Same-trans}
@@ -62,3 +62,13 @@ phase-free-cheapest {m} {p} f =
   where
     own : PhaseFreeOf (word p) p
     own = record { whole = p; phase-free = phase-free-own (f .phase-free); same = Same-refl (word p) }
+
+-- ---- what is no cheapest spelling: two T for S, none for T, any with a T more than it has
+pub not-two-for-S : (v : List Letter) → Cheapest Same (word (S ∷ [])) v 2 → ⊥
+not-two-for-S v c = omega (arith, c .fewest (S ∷ []) (Same-refl (word (S ∷ []))))
+
+pub not-none-for-T : (v : List Letter) → Cheapest Same (word (T′ ∷ [])) v 0 → ⊥
+not-none-for-T v c = omega (arith, c .parity (T′ ∷ []) (Same-refl (word (T′ ∷ []))))
+
+pub not-one-more : (m : Matrix) (v : List Letter) → Cheapest Same m v (tees v + 1) → ⊥
+not-one-more m v c = omega (arith, c .counted)
