@@ -10,7 +10,7 @@ use Rattle.exact.specs.Meaning.Lent.{over}
 use Rattle.exact.specs.Meaning.Record.{answerLines, answerText}
 use Rattle.record.specs.Meaning.{WriteOutcome}
 use Rattle.lent.specs.Written.{Written, written-over}
-use Rattle.record.specs.Write.{digits-few}
+use Rattle.decimal.specs.Write.{digits-few}
 
 -- ---- 512 bytes are enough
 module _ (refusal : ℕ) (old : List ℕ) (fits : refusal < 256) (room : 512 ≤ length old) where

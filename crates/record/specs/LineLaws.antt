@@ -9,15 +9,17 @@ use mir.Syntax.{w64}
 use mir.ValLaws.{toZ-ofZ}
 use Rattle.exact.specs.Meaning.Record.{InRange}
 use Rattle.exact.specs.Whole.Machine.{held}
-use Rattle.record.specs.Decimal.{cons-head, cons-tail}
-use Rattle.record.specs.Format.{Format, Found, Missing, Once, before, named, natural, whole, fourNumbers, kLine, nLine, ringLine}
-use Rattle.record.specs.Format.{found-both, missing-first, missing-second, once-named, once-whole}
-use Rattle.record.specs.ReadLaws.{byte-and}
-use Rattle.record.specs.Read.{NameIs, WholeIs, NaturalIs, FourIs, RingIs, KIs, NIs}
-use Rattle.record.specs.declared.decimal.Natural.{Natural}
-use Rattle.record.specs.declared.decimal.Natural.the-variants.{Is, No}
-use Rattle.record.specs.declared.decimal.Whole.{Whole}
-use Rattle.record.specs.declared.decimal.Whole.the-variants.{Is as IsWhole, No as NoWhole}
+use Rattle.decimal.specs.Decimal.{cons-head, cons-tail}
+use Rattle.decimal.specs.Format.{Format, Found, Missing, Once, natural, whole, once-whole}
+use Rattle.decimal.specs.Read.{WholeIs, NaturalIs}
+use Rattle.decimal.specs.ReadLaws.{byte-and}
+use Rattle.record.specs.Format.{before, named, fourNumbers, kLine, nLine, ringLine}
+use Rattle.record.specs.Format.{found-both, missing-first, missing-second, once-named}
+use Rattle.record.specs.Read.{NameIs, FourIs, RingIs, KIs, NIs}
+use Rattle.decimal.specs.declared.Natural.{Natural}
+use Rattle.decimal.specs.declared.Natural.the-variants.{Is, No}
+use Rattle.decimal.specs.declared.Whole.{Whole}
+use Rattle.decimal.specs.declared.Whole.the-variants.{Is as IsWhole, No as NoWhole}
 use Rattle.record.specs.declared.lines.Name.{Name}
 use Rattle.record.specs.declared.lines.Name.the-variants.{Before, No as NoName}
 use Rattle.record.specs.declared.lines.Four.{Four}

@@ -11,7 +11,7 @@ use Rattle.exact.specs.Meaning.Limits.{Record as Malformed}
 use Rattle.exact.specs.Meaning.Record.{Numbers, RightRecord, RingInRange, InRange, digitsOf, digits, text, line, four, recordText}
 use Rattle.record.specs.Meaning.{refusedRecord, ReadOutcome}
 use Rattle.record.specs.Returns.{refuses}
-use Rattle.record.specs.Write.{digits-few}
+use Rattle.decimal.specs.Write.{digits-few}
 
 abbrev pub longestRecord : ℕ
 longestRecord = 201

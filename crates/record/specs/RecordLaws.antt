@@ -11,9 +11,9 @@ use Rattle.exact.specs.Meaning.Record.{Numbers, RingInRange, RightRecord, digit
 use Rattle.exact.specs.Meaning.Refusals.{malformed}
 use Rattle.exact.specs.Outcomes.Ladder.{Only, one-outcome}
 use Rattle.exact.specs.Outcomes.Places.{one-plain}
+use Rattle.decimal.specs.Format.{Format, Found, Missing, Once, natural, whole, once-natural, once-whole}
 use Rattle.record.specs.Meaning.{numbers, refusedRecord, Reads, ReadOutcome}
-use Rattle.record.specs.Format.{Format, Found, Missing, Once, once-named, once-natural, once-whole, once-both}
-use Rattle.record.specs.Format.{Four, before, named, natural, whole, fourNumbers, kLine, nLine, ringLine}
+use Rattle.record.specs.Format.{Four, before, named, fourNumbers, kLine, nLine, ringLine, once-named, once-both}
 use Rattle.record.specs.declared.Record.{Record}
 
 -- ---- the lines together

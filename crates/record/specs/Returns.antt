@@ -11,17 +11,18 @@ use Rattle.exact.specs.Meaning.Limits.{Accepted, Record as Malformed}
 use Rattle.exact.specs.Meaning.Outcome.{Rung}
 use Rattle.exact.specs.Meaning.Record.{Numbers, RightRecord}
 use Rattle.exact.specs.Whole.Machine.{held}
+use Rattle.decimal.specs.Format.{Found, Missing}
 use Rattle.record.specs.Meaning.{numbers, refusedRecord, ReadOutcome}
-use Rattle.record.specs.Format.{Found, Missing, kLine, nLine, ringLine, found-both, missing-first, missing-second}
+use Rattle.record.specs.Format.{kLine, nLine, ringLine, found-both, missing-first, missing-second}
 use Rattle.record.specs.Read.{KIs, NIs, RingIs}
 use Rattle.record.specs.LineLaws.{held-in}
 use Rattle.record.specs.RecordLaws.{lines, allLines, nzwLines, zwLines, once-k, once-n, once-ring}
 use Rattle.record.specs.RecordLaws.{no-record, more-behind, right-record}
 use Rattle.record.specs.declared.Record.{Record}
-use Rattle.record.specs.declared.decimal.Natural.{Natural}
-use Rattle.record.specs.declared.decimal.Natural.the-variants.{Is, No}
-use Rattle.record.specs.declared.decimal.Whole.{Whole}
-use Rattle.record.specs.declared.decimal.Whole.the-variants.{Is as IsWhole, No as NoWhole}
+use Rattle.decimal.specs.declared.Natural.{Natural}
+use Rattle.decimal.specs.declared.Natural.the-variants.{Is, No}
+use Rattle.decimal.specs.declared.Whole.{Whole}
+use Rattle.decimal.specs.declared.Whole.the-variants.{Is as IsWhole, No as NoWhole}
 use Rattle.record.specs.declared.lines.Four.{Four}
 use Rattle.record.specs.declared.lines.Four.the-variants.{Is as IsFour, No as NoFour}
 

@@ -1,10 +1,9 @@
 // The bench record, read from a slice, and its answer, written to a slice, to the byte as in docs/SCOPE.md, The record.
-mod decimal;
 mod lines;
-mod text;
 
 use decimal::Natural;
 use decimal::Whole;
+use decimal::text;
 use lines::Four;
 ghost use mathlib.Core.Path.{_≡_};
 ghost use Prim.Native.Nat.{_+_, _≤_};

@@ -1,7 +1,6 @@
 // The record's lines: a name and `=`, then a number or four, then LF.
-use crate::decimal;
-use crate::decimal::Natural;
-use crate::decimal::Whole;
+use decimal::Natural;
+use decimal::Whole;
 ghost use lib.ListN.{drop};
 ghost use Rattle.record.specs.Read.{NameIs, FourIs, RingIs, KIs, NIs};
 

@@ -1,5 +1,5 @@
 -- `answer` meets its contract: the lines have room, and together they are the answer's. Assumes nothing.
-use Rattle.record.specs.Write.{first-room, second-room, third-room, row-written}
+use Rattle.decimal.specs.Write.{first-room, second-room, third-room, row-written}
 use borrow.Author.Needs.{needs}
 use Rattle.record.proofs.answer.Statement.{statement}
 use Rattle.record.proofs.answer.Tie as tie

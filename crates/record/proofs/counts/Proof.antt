@@ -1,5 +1,5 @@
 -- `counts` meets its contract: the three lines have room, and together they are those of the counts. Assumes nothing.
-use Rattle.record.specs.Write.{first-room, second-room, third-room, row-written}
+use Rattle.decimal.specs.Write.{first-room, second-room, third-room, row-written}
 use borrow.Author.Needs.{needs}
 use Rattle.record.proofs.counts.Statement.{statement}
 use Rattle.record.proofs.counts.Tie as tie

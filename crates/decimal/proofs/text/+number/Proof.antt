@@ -2,17 +2,17 @@
 -- Assumes nothing.
 use native.Mathlib.Omega.{arith}
 use lib.ListN.{length-set}
-use Rattle.record.specs.Write.{number-one, number-more, length-one, length-more, number-room, number-end}
+use Rattle.decimal.specs.Write.{number-one, number-more, length-one, length-more, number-room, number-end}
 use Rattle.lent.specs.Written.{written-length}
 use Prim.Native.Nat.{ℕ, _<_}
 use borrow.Fn.Kinds.{In}
 use borrow.Fn.PlainCycle.{Measures, is, falls, and}
-use Rattle.record.proofs.text.number.Reads as number
-use Rattle.record.proofs.text.number.Kinds as number-kinds
-use Rattle.record.proofs.text.+number.Lts-number as number-lts
-use Rattle.record.proofs.text.digit_of.Reads as digit-of-reads
-use Rattle.record.proofs.text.+number.{statement}
-use Rattle.record.proofs.text.+number.Tie.{close}
+use Rattle.decimal.proofs.text.number.Reads as number
+use Rattle.decimal.proofs.text.number.Kinds as number-kinds
+use Rattle.decimal.proofs.text.+number.Lts-number as number-lts
+use Rattle.decimal.proofs.text.digit_of.Reads as digit-of-reads
+use Rattle.decimal.proofs.text.+number.{statement}
+use Rattle.decimal.proofs.text.+number.Tie.{close}
 
 abbrev μ-number : Measures 1 number-kinds.ps ℕ
 μ-number κs a = a .1 .1 .0

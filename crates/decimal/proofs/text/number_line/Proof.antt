@@ -1,8 +1,8 @@
 -- `text::number_line` meets its contract: name, value and LF have room, and together they are the line. Assumes nothing.
-use Rattle.record.specs.Write.{first-room, second-room, third-room, row-written}
+use Rattle.decimal.specs.Write.{first-room, second-room, third-room, row-written}
 use borrow.Author.Needs.{needs}
-use Rattle.record.proofs.text.number_line.Statement.{statement}
-use Rattle.record.proofs.text.number_line.Tie as tie
+use Rattle.decimal.proofs.text.number_line.Statement.{statement}
+use Rattle.decimal.proofs.text.number_line.Tie as tie
 
 put-requires : tie.Need-put-requires
 put-requires c κs = search first-room

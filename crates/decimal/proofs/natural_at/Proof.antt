@@ -1,13 +1,13 @@
--- `decimal::natural_at` meets its contract.
+-- `natural_at` meets its contract.
 -- The loop's invariant: the bytes from `at` to `i` are the digits of `value`, which is at most `most`. Assumes nothing.
 use borrow.Author.Needs.{needs}
 use native.Mathlib.Omega.{arith}
 use Prim.Native.Nat.{_-_}
 use lib.ListN.{length}
-use Rattle.record.specs.ReadLaws.{Reading, reading-first, reading-more, reading-found, reading-stop, reading-end}
-use Rattle.record.specs.ReadLaws.{natural-past, natural-first}
-use Rattle.record.proofs.decimal.natural_at.Statement.{statement}
-use Rattle.record.proofs.decimal.natural_at.Tie as tie
+use Rattle.decimal.specs.ReadLaws.{Reading, reading-first, reading-more, reading-found, reading-stop, reading-end}
+use Rattle.decimal.specs.ReadLaws.{natural-past, natural-first}
+use Rattle.decimal.proofs.natural_at.Statement.{statement}
+use Rattle.decimal.proofs.natural_at.Tie as tie
 
 abbrev Inv-loop : tie.InvT-loop
 Inv-loop s at end most d value₀ i₀ value i = Reading s at most value i

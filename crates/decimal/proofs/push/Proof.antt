@@ -1,8 +1,8 @@
--- `decimal::push` meets its contract: what stops it is what no number's digits can go on with. Assumes nothing.
+-- `push` meets its contract: what stops it is what no number's digits can go on with. Assumes nothing.
 use borrow.Author.Needs.{needs}
-use Rattle.record.specs.ReadLaws.{push-stop, push-over, push-more}
-use Rattle.record.proofs.decimal.push.Statement.{statement}
-use Rattle.record.proofs.decimal.push.Tie as tie
+use Rattle.decimal.specs.ReadLaws.{push-stop, push-over, push-more}
+use Rattle.decimal.proofs.push.Statement.{statement}
+use Rattle.decimal.proofs.push.Tie as tie
 
 returns : tie.Need-returns
 returns c = search needs

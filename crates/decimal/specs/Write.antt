@@ -1,4 +1,4 @@
--- The answer's numbers and lines in lent bytes. Assumes nothing.
+-- Numbers and lines in lent bytes. Assumes nothing.
 use mathlib.Core.Path.{_≡_, _∙_, ap}
 use mathlib.Core.Logic.{_⊎_, inl, inr}
 use mathlib.Core.List.{List, [], _∷_, _++_}
@@ -10,7 +10,7 @@ use mir.Val.{Fits}
 use lib.ListN.{length, set, length-append}
 use Rattle.exact.specs.Meaning.Record.{digits}
 use Rattle.lent.specs.Written.{Written, written-both, written-byte, written-length}
-use Rattle.record.specs.Decimal.{below-ten, digits-one, digits-more}
+use Rattle.decimal.specs.Decimal.{below-ten, digits-one, digits-more}
 
 -- ---- digits
 pub number-one : (old : List ℕ) (at v d : ℕ) → v < 10 → d ≡ 48 + v → Written old at (digits v) (set old at d) (at + 1)

@@ -1,8 +1,8 @@
--- `decimal::positive_at` meets its contract: a text with no minus is that of a number from 0, and that fits. Assumes nothing.
-use Rattle.record.specs.ReadLaws.{positive-none, positive-fits, positive-found}
+-- `positive_at` meets its contract: a text with no minus is that of a number from 0, and that fits. Assumes nothing.
+use Rattle.decimal.specs.ReadLaws.{positive-none, positive-fits, positive-found}
 use borrow.Author.Needs.{needs}
-use Rattle.record.proofs.decimal.positive_at.Statement.{statement}
-use Rattle.record.proofs.decimal.positive_at.Tie as tie
+use Rattle.decimal.proofs.positive_at.Statement.{statement}
+use Rattle.decimal.proofs.positive_at.Tie as tie
 
 natural-at-requires : tie.Need-natural-at-requires
 natural-at-requires c κs = search needs

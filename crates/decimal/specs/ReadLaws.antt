@@ -13,15 +13,15 @@ use mir.Val.{SFits, toZ}
 use mir.ValLaws.{toZ-pos, toZ-ofZ}
 use Rattle.exact.specs.Meaning.Record.{digits, text, InRange}
 use Rattle.exact.specs.Whole.Machine.{held}
-use Rattle.record.specs.Decimal.{Digit, Digits, Grown, First, Ends, Goes, digits-one, digits-push, digits-digits, digits-once}
-use Rattle.record.specs.Decimal.{cut, goes-on, first-of, all-digits, no-digit, minus-first, cons-head, cons-tail}
-use Rattle.record.specs.Format.{Found, Missing, natural, whole}
-use Rattle.record.specs.Read.{Taken, DigitIs, PushIs, NaturalIs, WholeIs}
-use Rattle.record.specs.declared.decimal.Step.{Step}
-use Rattle.record.specs.declared.decimal.Step.the-variants.{More, Stop}
-use Rattle.record.specs.declared.decimal.Natural.{Natural}
-use Rattle.record.specs.declared.decimal.Natural.the-variants.{Is, No}
-use Rattle.record.specs.declared.decimal.Whole.{Whole}
+use Rattle.decimal.specs.Decimal.{Digit, Digits, Grown, First, Ends, Goes, digits-one, digits-push, digits-digits, digits-once}
+use Rattle.decimal.specs.Decimal.{cut, goes-on, first-of, all-digits, no-digit, minus-first, cons-head, cons-tail}
+use Rattle.decimal.specs.Format.{Found, Missing, natural, whole}
+use Rattle.decimal.specs.Read.{Taken, DigitIs, PushIs, NaturalIs, WholeIs}
+use Rattle.decimal.specs.declared.Step.{Step}
+use Rattle.decimal.specs.declared.Step.the-variants.{More, Stop}
+use Rattle.decimal.specs.declared.Natural.{Natural}
+use Rattle.decimal.specs.declared.Natural.the-variants.{Is, No}
+use Rattle.decimal.specs.declared.Whole.{Whole}
 
 -- ---- a digit more
 module _ (w b most : ℕ) (x : Step) (is-d : DigitIs b 9 x) where

@@ -1,8 +1,8 @@
--- `decimal::negative_at` meets its contract: behind a minus stands a number from 1 to 2^63. Assumes nothing.
-use Rattle.record.specs.ReadLaws.{negative-none, negative-zero, less-fits, negative-fits, negative-found}
+-- `negative_at` meets its contract: behind a minus stands a number from 1 to 2^63. Assumes nothing.
+use Rattle.decimal.specs.ReadLaws.{negative-none, negative-zero, less-fits, negative-fits, negative-found}
 use borrow.Author.Needs.{needs}
-use Rattle.record.proofs.decimal.negative_at.Statement.{statement}
-use Rattle.record.proofs.decimal.negative_at.Tie as tie
+use Rattle.decimal.proofs.negative_at.Statement.{statement}
+use Rattle.decimal.proofs.negative_at.Tie as tie
 
 natural-at-requires : tie.Need-natural-at-requires
 natural-at-requires c κs = search needs

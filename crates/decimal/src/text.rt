@@ -28,7 +28,7 @@ fn number(out: &mut [u8], at: usize, v: u64) -> usize
 }
 
 // A line: its name with `=`, a number, LF.
-pub(crate) fn number_line(out: &mut [u8], at: usize, name: &[u8], v: u64) -> usize
+pub fn number_line(out: &mut [u8], at: usize, name: &[u8], v: u64) -> usize
     requires { ⌜ at + length (now name ++ (digits v ++ (10 ∷ []))) ≤ length (now out) ⌝ }
     ensures { λ r. ⌜ Written (now (out .entry)) at (now (name .entry) ++ (digits v ++ (10 ∷ []))) (now (out .exit)) r ⌝ }
 {
@@ -38,7 +38,7 @@ pub(crate) fn number_line(out: &mut [u8], at: usize, name: &[u8], v: u64) -> usi
 }
 
 // A line: its name with `=`, bytes, LF.
-pub(crate) fn bytes_line(out: &mut [u8], at: usize, name: &[u8], value: &[u8]) -> usize
+pub fn bytes_line(out: &mut [u8], at: usize, name: &[u8], value: &[u8]) -> usize
     requires { ⌜ at + length (now name ++ (now value ++ (10 ∷ []))) ≤ length (now out) ⌝ }
     ensures { λ r. ⌜ Written (now (out .entry)) at (now (name .entry) ++ (now (value .entry) ++ (10 ∷ []))) (now (out .exit)) r ⌝ }
 {

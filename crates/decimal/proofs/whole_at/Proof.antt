@@ -1,8 +1,8 @@
--- `decimal::whole_at` meets its contract: by whether there is a minus. Assumes nothing.
-use Rattle.record.specs.ReadLaws.{whole-past, minus-there}
+-- `whole_at` meets its contract: by whether there is a minus. Assumes nothing.
+use Rattle.decimal.specs.ReadLaws.{whole-past, minus-there}
 use borrow.Author.Needs.{needs}
-use Rattle.record.proofs.decimal.whole_at.Statement.{statement}
-use Rattle.record.proofs.decimal.whole_at.Tie as tie
+use Rattle.decimal.proofs.whole_at.Statement.{statement}
+use Rattle.decimal.proofs.whole_at.Tie as tie
 
 returns : tie.Need-returns
 returns c = search whole-past

@@ -3,15 +3,17 @@ ghost use mathlib.Core.Path.{_≡_};
 ghost use Prim.Native.Nat.{_<_};
 ghost use mathlib.Core.List.{_∷_};
 ghost use lib.ListN.{length, getD, drop};
-ghost use Rattle.record.specs.Read.{DigitIs, PushIs, NaturalIs, WholeIs};
+ghost use Rattle.decimal.specs.Read.{DigitIs, PushIs, NaturalIs, WholeIs};
+
+pub mod text;
 
 // A digit taken in, or none.
-pub(crate) enum Step {
+enum Step {
     More(u64),
     Stop,
 }
 
-pub(crate) enum Natural {
+pub enum Natural {
     Is { value: u64, next: usize },
     No,
 }
@@ -60,7 +62,7 @@ fn push(front: u64, b: u8, most: u64) -> Step
 }
 
 // The number from 0 to `most` at a place, with `end` behind it.
-pub(crate) fn natural_at(s: &[u8], at: usize, end: u8, most: u64) -> Natural
+pub fn natural_at(s: &[u8], at: usize, end: u8, most: u64) -> Natural
     requires { ⌜ end < 48 ⌝ }
     ensures { λ r. ⌜ NaturalIs (now (s .entry)) (drop at (now (s .entry))) end most r ⌝ }
 {
@@ -86,13 +88,13 @@ pub(crate) fn natural_at(s: &[u8], at: usize, end: u8, most: u64) -> Natural
     Natural::No
 }
 
-pub(crate) enum Whole {
+pub enum Whole {
     Is { value: i64, next: usize },
     No,
 }
 
 // The number in 64-bit signed range at a place, with `end` behind it.
-pub(crate) fn whole_at(s: &[u8], at: usize, end: u8) -> Whole
+pub fn whole_at(s: &[u8], at: usize, end: u8) -> Whole
     requires { ⌜ end < 48 ⌝ }
     ensures { λ r. ⌜ WholeIs (now (s .entry)) (drop at (now (s .entry))) end r ⌝ }
 {
