@@ -24,7 +24,7 @@ use Rattle.exact.specs.Outcomes.Ladder.{through}
 use Rattle.exact.specs.Outcomes.Checked.{checks-taken}
 use Rattle.exact.specs.Rotation.Laws.{rotation-moved}
 use Rattle.exact.specs.Rotation.Least.{normal-least, least-once}
-use Rattle.exact.specs.Unique.Cheapest.{normal-cheapest, normal-cheapest-phase}
+use Rattle.exact.specs.Unique.Cheapest.{normal-cheapest, normal-cheapest-phase, SpelledCheapest}
 use Rattle.ring.specs.Meaning.{quad}
 use Rattle.ring.specs.declared.ZOmega.{ZOmega}
 use Rattle.unitary.specs.Meaning.{given}
@@ -48,22 +48,19 @@ use Rattle.agreement.specs.Meaning.Exports.{Wrote}
 use Rattle.agreement.specs.Again.{textOf}
 use Rattle.agreement.specs.Phase.{teesIn, job-taken}
 
--- the bytes that a call left spell it, and it has as many T letters as the call counted
-abbrev pub LeftCheapest : (Matrix → Matrix → Type 0) → Matrix → Wrote → Type 0
-LeftCheapest Like m r = Spelled (Cheapest Like m) (textOf r) (teesIn r)
-
--- of a normal word both hold
-abbrev pub LeftNormal : Matrix → Wrote → Type 0
-LeftNormal m r = LeftCheapest Same m r × LeftCheapest ByOmega m r
+-- the bytes that a call left spell a normal word, and it has as many T letters as the call counted
+abbrev pub LeftCheapest : Matrix → Wrote → Type 0
+LeftCheapest m r = SpelledCheapest m (textOf r) (teesIn r)
 
 -- ---- words
 module _ (u : List Letter) {old : List ℕ} {r : Wrote} where
-  pub exports-normalise-cheapest : Writes Normalises (bytes u) old r → r .0 ≡ Accepted → LeftNormal (word u) r
-  exports-normalise-cheapest x e = subst (LeftNormal (word u)) (sym (x .is)) (normalise-cheapest u (x .outcome) (job-taken Normalises x e))
+  pub exports-normalise-cheapest : Writes Normalises (bytes u) old r → r .0 ≡ Accepted → LeftCheapest (word u) r
+  exports-normalise-cheapest x e = subst (LeftCheapest (word u)) (sym (x .is)) (normalise-cheapest u (x .outcome) (job-taken Normalises x e))
 
-  pub exports-phase-free-cheapest : Writes DropsPhase (bytes u) old r → r .0 ≡ Accepted → LeftCheapest ByOmega (word u) r
+  pub exports-phase-free-cheapest : Writes DropsPhase (bytes u) old r → r .0 ≡ Accepted → Spelled (Cheapest ByOmega (word u)) (textOf r) (teesIn r)
   exports-phase-free-cheapest x e =
-      subst (LeftCheapest ByOmega (word u)) (sym (x .is)) (phase-free-cheapest-5 u (x .outcome) (job-taken DropsPhase x e))
+      subst (λ (y : Wrote). Spelled (Cheapest ByOmega (word u)) (textOf y) (teesIn y)) (sym (x .is))
+      (phase-free-cheapest-5 u (x .outcome) (job-taken DropsPhase x e))
 
 -- ---- triples
 module _ (k : ℤ) (n : ℕ) (zw : List ℤ) where
@@ -73,20 +70,19 @@ module _ (k : ℤ) (n : ℕ) (zw : List ℤ) where
   -- `numbers` are what is handed back of job 4, the bytes and the T letters among them
   module _ {old : List ℕ} {r : Wrote} where
     of-job : (numbers : Synthesis → List ℕ)
-        → ((j : Lent Synthesis)
-        → Spelled (Cheapest Same asked) (seen j .1) (j .handed .tees) × Spelled (Cheapest ByOmega asked) (seen j .1) (j .handed .tees)
-        → LeftNormal asked (j .handed .refusal, (numbers (j .handed), j .buffer)))
+        → ((j : Lent Synthesis) → SpelledCheapest asked (seen j .1) (j .handed .tees)
+        → LeftCheapest asked (j .handed .refusal, (numbers (j .handed), j .buffer)))
         → Synthesises numbers k n zw old r → r .0 ≡ Accepted
-        → LeftNormal asked r
+        → LeftCheapest asked r
     of-job numbers left x e =
-        subst (LeftNormal asked) (sym (x .is))
+        subst (LeftCheapest asked) (sym (x .is))
         (left (x .job)
         (synthesised-cheapest k n (zOf zw) (wOf zw) old (x .job .handed) (x .job .buffer) (x .outcome) (sym (ap (λ (y : Wrote). y .0) (x .is)) ∙ e)))
 
-    pub exports-synthesise-cheapest : Synthesises countsOf k n zw old r → r .0 ≡ Accepted → LeftNormal asked r
+    pub exports-synthesise-cheapest : Synthesises countsOf k n zw old r → r .0 ≡ Accepted → LeftCheapest asked r
     exports-synthesise-cheapest = of-job countsOf (λ j h. h)
 
-    pub exports-steps-cheapest : Synthesises stepsOf k n zw old r → r .0 ≡ Accepted → LeftNormal asked r
+    pub exports-steps-cheapest : Synthesises stepsOf k n zw old r → r .0 ≡ Accepted → LeftCheapest asked r
     exports-steps-cheapest = of-job stepsOf (λ j h. h)
 
 -- ---- what the bench program prints: a refusal, or a word of the record's matrix
@@ -132,13 +128,13 @@ module _ (k : ℤ) (n : ℕ) (z w : ZOmega) (c : Count) (o : CountOutcome k n z 
   abbrev triple : Triple
   triple = given k n z w
 
-  -- a word with the matrix, and its normal word
   unitary-there : Unitary triple
   unitary-there =
       checks-taken k (quad z) (quad w)
       (through refusedCount (AnswersCount (entries triple)) (λ (j : Count). j .refusal ≡ Accepted) (checks k (quad z) (quad w)) none
       ((λ p h. omega arith), ((λ p h. omega arith), ((λ p h. omega arith), tt))) c e o .0) .unitary-there n
 
+  -- a word with the matrix has a normal word
   normal : HasNormal (letters (reduce triple))
   normal = has-normal (letters (reduce triple))
 

@@ -1,18 +1,15 @@
 -- Job 4 writes a cheapest spelling, through its outcome: what an accepted call wrote has the fewest T letters of all words with the triple's matrix, up
 -- to a phase too, the number handed back is theirs, and all such words have its parity, which is n's. Assumes nothing.
-use mathlib.Core.Path.{_≡_, sym, _∙_, ap, subst}
+use mathlib.Core.Path.{_≡_, _∙_, ap}
 use mathlib.Core.List.{List}
 use Prim.Native.Nat.{ℕ, _%_}
 use lib.IntN.{ℤ}
 use lib.ListN.{take}
-use Rattle.exact.specs.Meaning.Matrix.{Matrix, Same, ByOmega}
-use Rattle.exact.specs.Meaning.Word.{Spelled}
-use Rattle.exact.specs.Meaning.Cheapest.{Cheapest}
 use Rattle.exact.specs.Meaning.Limits.{Accepted}
 use Rattle.exact.specs.Meaning.Lent.{lent, Writes}
 use Rattle.exact.specs.Matrices.Parity.{tees-n}
 use Rattle.exact.specs.Matrices.Same.{Same-sym}
-use Rattle.exact.specs.Unique.Cheapest.{normal-cheapest, normal-cheapest-phase}
+use Rattle.exact.specs.Unique.Cheapest.{SpelledCheapest, normal-spelled}
 use Rattle.ring.specs.declared.ZOmega.{ZOmega}
 use Rattle.unitary.specs.Meaning.{given}
 use Rattle.synthesis_of_clifford_t.specs.declared.Synthesis.{Synthesis}
@@ -30,21 +27,9 @@ module _ (k : ℤ) (n : ℕ) (z w : ZOmega) (old : List ℕ) (r : Synthesis) (ne
   counted : r .tees ≡ counts (answer .v) .tees
   counted = ap (λ (s : Synthesis × List ℕ). s .0 .tees) written
 
-  abbrev pub WroteCheapest : (Matrix → Matrix → Type 0) → Type 0
-  WroteCheapest Like = Spelled (Cheapest Like (asked k n z w old)) (take (r .bytes) new) (r .tees)
-
-  wrote-cheapest : (Like : Matrix → Matrix → Type 0) → Cheapest Like (asked k n z w old) (answer .v .letters) (counts (answer .v) .tees)
-      → WroteCheapest Like
-  wrote-cheapest Like cheapest =
-      record {
-        letters = answer .v .letters;
-        spelled = sym (ap (λ (s : Synthesis × List ℕ). s .1) written);
-        holds = subst (Cheapest Like (asked k n z w old) (answer .v .letters)) (sym counted) cheapest;
-      }
-
-  pub synthesised-cheapest : WroteCheapest Same × WroteCheapest ByOmega
+  pub synthesised-cheapest : SpelledCheapest (asked k n z w old) (take (r .bytes) new) (r .tees)
   synthesised-cheapest =
-      let a = answer .answer .normal in (wrote-cheapest Same (normal-cheapest a), wrote-cheapest ByOmega (normal-cheapest-phase a))
+      normal-spelled (answer .v .letters) (answer .answer .normal) (ap (λ (s : Synthesis × List ℕ). s .1) written) counted
 
   pub synthesised-parity : r .tees % 2 ≡ n % 2
   synthesised-parity = ap (λ t. t % 2) counted ∙ tees-n (answer .v .letters) (given k n z w) (Same-sym (answer .answer .normal .same))

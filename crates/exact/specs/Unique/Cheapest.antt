@@ -1,12 +1,12 @@
 -- No cheaper spelling: of all words with its matrix a normal word has the fewest T letters, and all have one parity; so too among the words whose
 -- matrix is the same but for a phase, and there for a phase-free word. Assumes nothing.
-use mathlib.Core.Path.{_≡_, refl}
+use mathlib.Core.Path.{_≡_, refl, sym, subst}
 use mathlib.Core.List.{List, [], _∷_}
-use Prim.Native.Nat.{_+_, _%_, _≤_}
+use Prim.Native.Nat.{ℕ, _+_, _%_, _≤_}
 use native.Mathlib.Omega.{arith}
 use Rattle.exact.specs.Meaning.Number.{omega^}
 use Rattle.exact.specs.Meaning.Matrix.{Matrix, Same, scaled, ByOmega}
-use Rattle.exact.specs.Meaning.Word.{Letter, S, T′, word, tees}
+use Rattle.exact.specs.Meaning.Word.{Letter, S, T′, word, tees, bytes, Spelled}
 use Rattle.exact.specs.Meaning.Normal.{NormalOf, PhaseFreeOf}
 use Rattle.exact.specs.Meaning.Cheapest.{Cheapest, NoCheaper}
 use Rattle.exact.specs.Matrices.Same.{Same-refl, Same-sym, Same-trans}
@@ -62,6 +62,22 @@ phase-free-cheapest {m} {p} f =
   where
     own : PhaseFreeOf (word p) p
     own = record { whole = p; phase-free = phase-free-own (f .phase-free); same = Same-refl (word p) }
+
+-- ---- what a call wrote and counted: its bytes spell such a word, which has so many T letters
+written-as : {Like : Matrix → Matrix → Type 0} {m : Matrix} (v : List Letter) {bs : List ℕ} {t : ℕ} → Cheapest Like m v (tees v)
+    → bs ≡ bytes v → t ≡ tees v
+    → Spelled (Cheapest Like m) bs t
+written-as {Like} {m} v c b e = record { letters = v; spelled = sym b; holds = subst (Cheapest Like m v) (sym e) c }
+
+abbrev pub SpelledCheapest : Matrix → List ℕ → ℕ → Type 0
+SpelledCheapest m bs t = Spelled (Cheapest Same m) bs t × Spelled (Cheapest ByOmega m) bs t
+
+pub normal-spelled : {m : Matrix} (v : List Letter) {bs : List ℕ} {t : ℕ} → NormalOf m v → bs ≡ bytes v → t ≡ tees v → SpelledCheapest m bs t
+normal-spelled v a b e = (written-as v (normal-cheapest a) b e, written-as v (normal-cheapest-phase a) b e)
+
+pub phase-free-spelled : {m : Matrix} (p : List Letter) {bs : List ℕ} {t : ℕ} → PhaseFreeOf m p → bs ≡ bytes p → t ≡ tees p
+    → Spelled (Cheapest ByOmega m) bs t
+phase-free-spelled p f = written-as p (phase-free-cheapest f)
 
 -- ---- what is no cheapest spelling: two T for S, none for T, any with a T more than it has
 pub not-two-for-S : (v : List Letter) → Cheapest Same (word (S ∷ [])) v 2 → ⊥

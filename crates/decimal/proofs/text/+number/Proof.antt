@@ -23,104 +23,46 @@ number-at t = and 1 number-kinds.ps (is 1 number-kinds.ps μ-number t) number.Pr
 abbrev number-below : ℕ → In 1 number-kinds.ps
 number-below t = and 1 number-kinds.ps (falls 1 number-kinds.ps _<_ μ-number t) number.Pre
 
-number-digit-of-requires : (t : ℕ) → number-lts.Need-digit-of-requires (
-  digit-of-reads.Asked,
-  digit-of-reads.Learnt,
-  number-below t,
-  number.Post,
-) (number-at t) number.Post
+-- what is asked and learnt of the calls, the one of itself below t
+abbrev claims : ℕ → number-lts.Claims
+claims t = (digit-of-reads.Asked, digit-of-reads.Learnt, number-below t, number.Post)
+
+number-digit-of-requires : (t : ℕ) → number-lts.Need-digit-of-requires (claims t) (number-at t) number.Post
 number-digit-of-requires t c κs = c .if1 .taken
 
-number-slice-write-out : (t : ℕ) → number-lts.Need-slice-write-out (
-  digit-of-reads.Asked,
-  digit-of-reads.Learnt,
-  number-below t,
-  number.Post,
-) (number-at t) number.Post
+number-slice-write-out : (t : ℕ) → number-lts.Need-slice-write-out (claims t) (number-at t) number.Post
 number-slice-write-out t c = omega (arith, length-one _ (c .before .if1 .taken))
 
-number-add-result : (t : ℕ) → number-lts.Need-add-result (
-  digit-of-reads.Asked,
-  digit-of-reads.Learnt,
-  number-below t,
-  number.Post,
-) (number-at t) number.Post
+number-add-result : (t : ℕ) → number-lts.Need-add-result (claims t) (number-at t) number.Post
 number-add-result t c = omega (arith, length-one _ (c .before .if1 .taken))
 
-number-same-length : (t : ℕ) → number-lts.Need-same-length (
-  digit-of-reads.Asked,
-  digit-of-reads.Learnt,
-  number-below t,
-  number.Post,
-) (number-at t) number.Post
+number-same-length : (t : ℕ) → number-lts.Need-same-length (claims t) (number-at t) number.Post
 number-same-length t c = simp length-set
 
-number-returns : (t : ℕ) → number-lts.Need-returns (
-  digit-of-reads.Asked,
-  digit-of-reads.Learnt,
-  number-below t,
-  number.Post,
-) (number-at t) number.Post
+number-returns : (t : ℕ) → number-lts.Need-returns (claims t) (number-at t) number.Post
 number-returns t c = search number-one
 
-number-number-requires : (t : ℕ) → number-lts.Need-number-requires (
-  digit-of-reads.Asked,
-  digit-of-reads.Learnt,
-  number-below t,
-  number.Post,
-) (number-at t) number.Post
+number-number-requires : (t : ℕ) → number-lts.Need-number-requires (claims t) (number-at t) number.Post
 number-number-requires t c κs =
     (rw (← (c .before .before .before .pre .0)) (omega arith), omega (arith, length-more _ (c .before .if1 .left)))
 
-number-digit-of-requires-2 : (t : ℕ) → number-lts.Need-digit-of-requires-2 (
-  digit-of-reads.Asked,
-  digit-of-reads.Learnt,
-  number-below t,
-  number.Post,
-) (number-at t) number.Post
+number-digit-of-requires-2 : (t : ℕ) → number-lts.Need-digit-of-requires-2 (claims t) (number-at t) number.Post
 number-digit-of-requires-2 t c κs = omega arith
 
-number-slice-write-out-2 : (t : ℕ) → number-lts.Need-slice-write-out-2 (
-  digit-of-reads.Asked,
-  digit-of-reads.Learnt,
-  number-below t,
-  number.Post,
-) (number-at t) number.Post
+number-slice-write-out-2 : (t : ℕ) → number-lts.Need-slice-write-out-2 (claims t) (number-at t) number.Post
 number-slice-write-out-2 t c = search number-room
 
-number-add-result-2 : (t : ℕ) → number-lts.Need-add-result-2 (
-  digit-of-reads.Asked,
-  digit-of-reads.Learnt,
-  number-below t,
-  number.Post,
-) (number-at t) number.Post
+number-add-result-2 : (t : ℕ) → number-lts.Need-add-result-2 (claims t) (number-at t) number.Post
 number-add-result-2 t c = search number-end
 
-number-same-length-2 : (t : ℕ) → number-lts.Need-same-length-2 (
-  digit-of-reads.Asked,
-  digit-of-reads.Learnt,
-  number-below t,
-  number.Post,
-) (number-at t) number.Post
+number-same-length-2 : (t : ℕ) → number-lts.Need-same-length-2 (claims t) (number-at t) number.Post
 number-same-length-2 t c = simp length-set (written-length (c .before .before .before .number .ensures))
 
-number-returns-2 : (t : ℕ) → number-lts.Need-returns-2 (
-  digit-of-reads.Asked,
-  digit-of-reads.Learnt,
-  number-below t,
-  number.Post,
-) (number-at t) number.Post
+number-returns-2 : (t : ℕ) → number-lts.Need-returns-2 (claims t) (number-at t) number.Post
 number-returns-2 t c = search number-more
 
 pub +number-spec : {M : Type 1} → statement M
-+number-spec = close μ-number λ t. number-lts.spec (
-  digit-of-reads.Asked,
-  digit-of-reads.Learnt,
-  number-below t,
-  number.Post,
-)
-    (number-at t)
-    number.Post
++number-spec = close μ-number λ t. number-lts.spec (claims t) (number-at t) number.Post
     (number-digit-of-requires t)
     (number-slice-write-out t)
     (number-add-result t)
