@@ -13,4 +13,3 @@ pub mod Tees
 pub mod Phase
 pub mod Cheapest
 pub mod Enough
-pub mod Slots

@@ -1,4 +1,6 @@
 // Demand 3 in running code: a word normalised, and its matrix synthesised.
+#![tactic(auto)]
+
 ghost use Rattle.std.specs.Prelude.{◌≤◌, length};
 ghost use Rattle.exact.specs.Meaning.Outcome.{Decides};
 ghost use Rattle.agreement.specs.Meaning.Agree.{Second, Alike, AgreeOutcome};
@@ -7,7 +9,7 @@ use normal_form::Written;
 use unitary::FromGates;
 
 // Both ways' answers, and whether they are accepted with the same bytes.
-#[derive(Drop)]
+#[derive(Clone, Copy)]
 pub struct Agreement {
     pub yes: bool,
     pub first: Written,

@@ -1,4 +1,6 @@
 // The bench program: a record on standard input, its answer on standard output.
+#![tactic(auto)]
+
 ghost use Rattle.std.specs.Prelude.{◌≤◌, ◌<◌, length};
 ghost use Rattle.io.specs.Counts.{IsPrefixLen};
 ghost use Rattle.record.specs.Longest.{longest_record};

@@ -1,4 +1,6 @@
 // Cases of `agree`: whether the two ways are alike, then each way's answer and lent bytes, a line each, compared with stdout.
+#![tactic(auto)]
+
 use normal_form::Written;
 use shown::{number, text};
 

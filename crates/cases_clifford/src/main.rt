@@ -1,4 +1,6 @@
 // Cases of job 6, a line each, compared with stdout; then all inverses, and the Rust's rows against what the product works out.
+#![tactic(auto)]
+
 ghost use Rattle.std.specs.Prelude.{◌<◌};
 
 use clifford::{Axis, Clifford};

@@ -1,4 +1,6 @@
 // Cases of jobs 3 and 5, on either side of each limit: a line each, compared with stdout.
+#![tactic(auto)]
+
 use normal_form::Written;
 use shown::{number, text};
 

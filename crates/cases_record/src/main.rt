@@ -1,4 +1,6 @@
 // Runs the cases on standard input through the reader, a line for each, and then writes some answers.
+#![tactic(auto)]
+
 ghost use Rattle.std.specs.Prelude.{◌≤◌, length};
 ghost use Rattle.exact.specs.Meaning.Limits.{enough};
 

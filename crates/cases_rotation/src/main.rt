@@ -1,5 +1,7 @@
 // The T count and the rotation on either side of each limit: a line for both refusals, the count and the exponent, then the nine entries row by row,
 // p,q for p + q·root two; compared with stdout.
+#![tactic(auto)]
+
 use ring::ZOmega;
 use root_two::Root;
 use rotation::Rotation;

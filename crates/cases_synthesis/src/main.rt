@@ -1,4 +1,6 @@
 // Job 4's cases of docs/SCOPE.md, Either side, with more at each limit and at the room: a line each, compared with stdout.
+#![tactic(auto)]
+
 use ring::ZOmega;
 use shown::{number, signed, text};
 use unitary::DOmegaUnitary;

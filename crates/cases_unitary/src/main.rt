@@ -1,4 +1,6 @@
 // Cases of jobs 1 and 2 from docs/SCOPE.md, Either side, with more at each limit: a line each, compared with stdout.
+#![tactic(auto)]
+
 use ring::ZOmega;
 use shown::{number, signed, text};
 use unitary::DOmegaUnitary;

@@ -1,4 +1,6 @@
 // Job 7 on either side of each limit, and its views as bits: a line for the refusal and one for each of the eight numbers, compared with stdout.
+#![tactic(auto)]
+
 ghost use Rattle.cases_view.specs.Finite.{Finite};
 
 use ring::ZOmega;

@@ -1,9 +1,11 @@
 // The letters of a right text put into a buffer, from the right: its first statement is the rightmost letter.
+#![tactic(auto)]
+
 ghost use Rattle.std.specs.Prelude.{[], ◌∷◌, ◌≤◌, ◌<◌, length};
 ghost use Rattle.circuit.specs.Lines.{OfCircuit};
 ghost use Rattle.circuit_letters.specs.Letters.{Before, PutsBefore, Stands, PutsStatement, PutsLetters};
 
-#[derive(Drop)]
+#[derive(Clone, Copy)]
 struct Step {
     at: usize,
     left: usize,

@@ -1,18 +1,18 @@
 // A text walked: whether it is a circuit or where it stops being one, and how many letters it is read as.
-ghost use Rattle.std.specs.Prelude.{◌≡◌, ◌+◌, ◌≤◌, ◌<◌, min, eqb, length, get_or, drop};
+#![tactic(auto)]
+
+ghost use Rattle.std.specs.Prelude.{◌≡◌, ◌&&◌, ◌+◌, ◌≤◌, ◌<◌, min, eqb, length, get_or, drop};
 ghost use Rattle.circuit_reader.specs.Reading.{Along, MatchIs, LineIs, TailIs, GateIs, DaggerIs, SameIs, Heading, Headed};
 ghost use Rattle.circuit_reader.specs.Reading.{WalkIs};
 
-use exact::both;
-
-#[derive(Drop)]
+#[derive(Clone, Copy)]
 pub enum Walked {
     Stopped(usize),
     // where the statements start, and how many letters they are read as
     Circuit { start: usize, letters: usize },
 }
 
-#[derive(Drop)]
+#[derive(Clone, Copy)]
 enum Line {
     Stopped(usize),
     // the place behind the line, and how many letters it is read as
@@ -205,6 +205,12 @@ fn lines_from(text: &[u8], start: usize, phase: bool) -> Walked
         }
     }
     Walked::Circuit { start, letters }
+}
+
+fn both(a: bool, b: bool) -> bool
+    ensures { result ≡ a && b }
+{
+    if a { b } else { false }
 }
 
 // Whether a word stands at a place: every byte is compared, so that many go at once.

@@ -1,4 +1,6 @@
 // The writer: a word is measured, and then its lines are put, the rightmost letter's first.
+#![tactic(auto)]
+
 ghost use Rattle.std.specs.Prelude.{◌≡◌, ◌∷◌, ◌+◌, ◌≤◌, ◌<◌, length};
 ghost use Rattle.exact.specs.Meaning.Text.{ascii};
 ghost use Rattle.exact.specs.Meaning.Word.{IsLetter};
@@ -10,7 +12,7 @@ ghost use Rattle.circuit_writer.specs.Writing.{Spells, SizeIs, MeasureIs, past_p
 // No letter: more than any line has.
 const NONE: usize = 255;
 
-#[derive(Drop)]
+#[derive(Clone, Copy)]
 pub enum Measured {
     Outside(usize),
     // the bytes of the lines, and the place of the first W or the word's length

@@ -1,4 +1,6 @@
 // Job 6: Cliffords. (a,b,c,d) is E^a X^b S^c omega^d; product, inverse, coset split and the passing of a T, by three tables and the moves of X and S past E.
+#![tactic(auto)]
+
 ghost use Rattle.std.specs.Prelude.{◌≡◌, ◌≤◌, ◌<◌};
 ghost use Rattle.clifford.specs.Meaning.{Ranged, reduced, modulo, Product, Inverse, Split};
 ghost use Rattle.clifford.specs.Arguments.{Reduced};
@@ -6,14 +8,14 @@ ghost use Rattle.clifford.specs.Tables.{Row2, RowInv, RowT};
 ghost use Rattle.clifford.specs.Moves.{move_at, Past, letter_at, moved, Preceded};
 ghost use Rattle.clifford.specs.Cliffords.{reduce, mul_c, inv_c, split_c, tconj_c};
 
-#[derive(Drop)]
+#[derive(Clone, Copy)]
 pub enum Axis {
     I,
     H,
     SH,
 }
 
-#[derive(Drop)]
+#[derive(Clone, Copy)]
 pub struct Clifford {
     pub a: u8,
     pub b: u8,
@@ -22,7 +24,7 @@ pub struct Clifford {
 }
 
 // An axis times what is left: a Clifford taken apart, or what a T leaves behind itself.
-#[derive(Drop)]
+#[derive(Clone, Copy)]
 pub struct Coset {
     pub axis: Axis,
     pub rest: Clifford,
@@ -43,21 +45,21 @@ const CLIFFORD_SH: Clifford = Clifford {
 };
 
 // S^c X^b is X^b S^c' omega^d', at 2c + b.
-#[derive(Drop)]
+#[derive(Clone, Copy)]
 struct Conj2 {
     c: u8,
     d: u8,
 }
 
 // A letter that is moved past E.
-#[derive(Drop)]
+#[derive(Clone, Copy)]
 enum Passing {
     X,
     S,
 }
 
 // E^a X^b T is axis T X^b S^c' omega^d', at 2a + b.
-#[derive(Drop)]
+#[derive(Clone, Copy)]
 struct Tconj {
     axis: Axis,
     c: u8,

@@ -1,17 +1,19 @@
 // Decimal numbers in a slice, each ended by a byte that is no digit.
+#![tactic(auto)]
+
 ghost use Rattle.std.specs.Prelude.{◌≡◌, ◌<◌, ◌∷◌, length, get_or, drop};
 ghost use Rattle.decimal.specs.Read.{DigitIs, PushIs, NaturalIs, WholeIs};
 
 pub mod text;
 
 // A digit taken in, or none.
-#[derive(Drop)]
+#[derive(Clone, Copy)]
 enum Step {
     More(u64),
     Stop,
 }
 
-#[derive(Drop)]
+#[derive(Clone, Copy)]
 pub enum Natural {
     Is { value: u64, next: usize },
     No,
@@ -87,7 +89,7 @@ pub fn natural_at(s: &[u8], at: usize, end: u8, most: u64) -> Natural
     Natural::No
 }
 
-#[derive(Drop)]
+#[derive(Clone, Copy)]
 pub enum Whole {
     Is { value: i64, next: usize },
     No,

@@ -1,4 +1,6 @@
 // What the exports are handed and hand back: numbers taken from arrays, and answers put into them.
+#![tactic(auto)]
+
 ghost use Rattle.std.specs.Prelude.{◌≡◌};
 ghost use Rattle.clifford.specs.Meaning.{axis_number};
 ghost use Rattle.handed.specs.Meaning.{z_of, w_of, ten, eight_of, nineteen_of, counts, counts_of, steps_of, counts_in, four_of, five_of, listed};
@@ -63,7 +65,7 @@ fn narrow(x: u8) -> i32
     x as i32
 }
 
-#[derive(Drop)]
+#[derive(Clone, Copy)]
 pub struct Four {
     pub a: i32,
     pub b: i32,

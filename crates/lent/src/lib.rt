@@ -1,4 +1,6 @@
 // Bytes put into lent memory from a place on.
+#![tactic(auto)]
+
 ghost use Rattle.std.specs.Prelude.{◌+◌, ◌≤◌, length};
 ghost use Rattle.lent.specs.Written.{Written};
 

@@ -1,7 +1,8 @@
 // Normal words: jobs 3 and 5.
-ghost use Rattle.std.specs.Prelude.{◌≡◌, cond, ◌≤◌, length};
-ghost use Rattle.reading.specs.Held.{Blank};
-ghost use Rattle.reading.specs.Texts.{Readable};
+#![tactic(auto)]
+
+ghost use Rattle.std.specs.Prelude.{◌≡◌, ◌≤◌, length};
+ghost use Rattle.reading.specs.Held.{Blank, Readable};
 ghost use Rattle.reading.specs.Steps.{Right};
 ghost use Rattle.normal_form.specs.Meaning.{refused, WordOutcome, NormaliseOutcome, PhaseFreeOutcome};
 ghost use Rattle.normal_form.specs.Answers.{Answers, WritesReading};
@@ -12,19 +13,12 @@ use table::TABLE;
 mod table;
 
 // What jobs 3 and 5 hand back: the refusal or 0, its place, the bytes written and the T letters among them.
-#[derive(Drop)]
+#[derive(Clone, Copy)]
 pub struct Written {
     pub refusal: u8,
     pub place: usize,
     pub bytes: usize,
     pub tees: usize,
-}
-
-// The reader's table, each part of it right.
-pub fn reader_table() -> [u8; 665]
-    ensures { Right result }
-{
-    TABLE
 }
 
 fn refused(number: u8, place: usize) -> Written
@@ -38,31 +32,22 @@ fn refused(number: u8, place: usize) -> Written
     }
 }
 
-// The bytes to be written: with the W letters they are the reading's own.
-fn bytes_of(phase: bool, whole: usize, parts: usize) -> usize
-    ensures { result ≡ cond phase whole parts }
-{
-    if phase { whole } else { parts }
-}
-
 // The word of a reading, if there is room for it: its length and its T letters are known before a byte is written.
 fn write(table: &[u8], items: &[u8], r: Reading, phase: bool, buf: &mut [u8]) -> Written
     requires fact_1 { Right table.now }
     requires fact_2 { Readable items.now r }
-    requires fact_3 { r.stack.count ≤ 4096 }
+    requires fact_3 { r.count ≤ 4096 }
     ensures { WritesReading phase items.now r buf.old result buf.new }
 {
-    let stack = r.stack;
-    let tail = stack.tail;
-    let count = stack.count;
+    let tail = r.tail;
+    let count = r.count;
     let e = writing::ending_of(table, tail, phase);
-    let n = bytes_of(phase, r.bytes, stack.letters + e.size());
+    let n = r.bytes + e.size();
     if n > buf.len() {
         return refused(exact::ROOM, 0);
     }
-    // the ending first: its six counts are then no longer held while the syllables are put
-    writing::put_ending(buf, stack.letters, e);
-    writing::put_syllables(buf, items, count);
+    let at = writing::put_syllables(buf, items, count);
+    writing::put_ending(buf, at, e);
     Written {
         refusal: exact::ACCEPTED,
         place: 0,
@@ -97,7 +82,7 @@ fn answer(word: &[u8], phase: bool, buf: &mut [u8]) -> Written
     if word.len() > exact::LONGEST {
         return refused(exact::LONG, 0);
     }
-    let table = reader_table();
+    let table = TABLE;
     let mut items = [EMPTY; 4096];
     read_and_write(&table, &mut items, word, phase, buf)
 }

@@ -1,4 +1,6 @@
 // OpenQASM 2.0 and 3.0 on one qubit: a word's circuit written, and a circuit's letters read.
+#![tactic(auto)]
+
 ghost use Rattle.std.specs.Prelude.{◌≡◌, ◌≤◌, length};
 ghost use Rattle.qasm.specs.Meaning.{refused, edition_of, WriteOutcome, ReadOutcome};
 ghost use Rattle.circuit_writer.specs.Writing.{Measures, PhaseIs};
@@ -9,14 +11,14 @@ use circuit_reader::Walked;
 use circuit_writer::Measured;
 
 // What is handed back: the refusal or 0, its place, and the bytes written.
-#[derive(Drop)]
+#[derive(Clone, Copy)]
 pub struct Written {
     pub refusal: u8,
     pub place: usize,
     pub bytes: usize,
 }
 
-#[derive(Drop)]
+#[derive(Clone, Copy)]
 pub enum Edition {
     Two,
     Three,

@@ -11,7 +11,7 @@ use Rattle.reading.specs.declared.Read.{Read}
 use Rattle.reading.specs.declared.Read.TheVariants as Read
 use Rattle.reading.specs.Readings.{start, run}
 use Rattle.reading.specs.Steps.{letter_number, letter_at, letter_at_is, number_few, number_of}
-use Rattle.reading.specs.Texts.{Holds}
+use Rattle.reading.specs.Held.{Holds}
 
 -- ---- a byte, by its number
 module _ (b n : ℕ) (e : n ≡ number_of b) where

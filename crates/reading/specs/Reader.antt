@@ -5,8 +5,7 @@ use Rattle.exact.specs.Meaning.Word.{I, FirstOutside}
 use Rattle.exact.specs.Cases.Letters.{letter_of, letters_of, letters_of_append, Inside, inside_none, inside_more}
 use Rattle.reading.specs.declared.Read.TheVariants as Read
 use Rattle.reading.specs.declared.Reading.{Reading}
-use Rattle.reading.specs.Held.{Blank, pair}
-use Rattle.reading.specs.Texts.{Holds, whole_holds, Readable, Steps, count_few}
+use Rattle.reading.specs.Held.{Blank, Holds, Readable, Steps, pair, count_few}
 use Rattle.reading.specs.Letters.{Reads, numbered_in, numbered_at, numbered_out}
 use Rattle.reading.specs.Readings.{State, start, read, run, run_append}
 use Rattle.reading.specs.Steps.{letter_at, number_of}
@@ -41,21 +40,19 @@ pub record Upto (w first items : List ℕ) (r : Reading) (i : ℕ) : Type 0 wher
   pub held : Holds items r (read_to w i)
 
 abbrev none : Reading
-none = record { stack = record { count = 0; letters = 0; tail = record { code = 0; phase = 0 } }; bytes = 1 }
+none = record { count = 0; bytes = 0; tail = record { code = 0; phase = 0 } }
 
 pub upto_none : (w items : List ℕ) → Blank items → Upto w items items none 0
 upto_none w items b = record { within = omega arith; same = refl; inside = inside_none w; held = held }
   where
     held : Holds items none start
     held =
-        whole_holds
-        (record {
+        record {
           array = record { count = refl; front = refl; empty = λ i k. b.empty i };
-          letters_is = refl;
+          bytes_is = refl;
           tail_is = refl;
           fits = record { code_few = omega arith; phase_few = omega arith };
-        })
-        refl
+        }
 
 -- n is the number of the byte at place i
 abbrev pub Numbered : List ℕ → ℕ → ℕ → Type 0
@@ -65,7 +62,7 @@ module _ {w old items : List ℕ} {r : Reading} {i : ℕ} (u : Upto w old items 
   pub readable : Readable items r
   readable = record { st = read_to w i; holds = u.held }
 
-  pub room : i < length w → length w ≤ 4096 → length w ≤ length old → (r.stack.count < length items) × (r.stack.count < 4096)
+  pub room : i < length w → length w ≤ 4096 → length w ≤ length old → (r.count < length items) × (r.count < 4096)
   room l m k = let few = count_few items r w i u.held u.within in (omega arith, omega arith)
 
   one_inside : {n : ℕ} → Numbered w i n → n ≤ 5 → Inside w (i + 1)

@@ -1,10 +1,11 @@
 // Readings: the syllables and the Clifford that the letters read so far make (NormalForm of the Rust).
+#![tactic(auto)]
+
 ghost use Rattle.std.specs.Prelude.{◌≡◌, ◌+◌, ◌≤◌, ◌<◌, length};
-ghost use Rattle.exact.specs.Meaning.Outcome.{Decides};
+ghost use Rattle.reading.specs.Readings.{read};
 ghost use Rattle.reading.specs.Steps.{letter_at, Right, Fits, tail_of};
 ghost use Rattle.reading.specs.Syllables.{syllable_of};
-ghost use Rattle.reading.specs.Held.{Blank, Stacked, Moves, Pushed, Popped, Placed, cancelled, changed, pair};
-ghost use Rattle.reading.specs.Texts.{whole_of, Few, Readable, Steps, AddsLetter};
+ghost use Rattle.reading.specs.Held.{Blank, Readable, Steps, Pushed, Popped, cancelled, pair};
 ghost use Rattle.reading.specs.Letters.{Reads};
 
 use crate::steps::{IDENTITY, Tail, number};
@@ -16,7 +17,7 @@ pub const EMPTY: u8 = 0;
 
 const ONLY_T: u8 = 1;
 
-#[derive(Drop)]
+#[derive(Clone, Copy)]
 pub enum Syllable {
     I,
     T,
@@ -25,32 +26,18 @@ pub enum Syllable {
 }
 
 // As many syllables as stand in the array, their letters, and the Clifford behind them.
-#[derive(Drop)]
-pub struct Stack {
+#[derive(Clone, Copy)]
+pub struct Reading {
     pub count: usize,
-    pub letters: usize,
+    pub bytes: usize,
     pub tail: Tail,
 }
 
-// The same, and the bytes of the text of it all, in which an empty tail is one I.
-#[derive(Drop)]
-pub struct Reading {
-    pub stack: Stack,
-    pub bytes: usize,
-}
-
 // A word's reading, or the first place of a byte that is no letter.
-#[derive(Drop)]
+#[derive(Clone, Copy)]
 pub enum Read {
     Word(Reading),
     Outside(usize),
-}
-
-// A reading with a letter more, or that there is no place for the syllable it needs.
-#[derive(Drop)]
-pub enum Added {
-    Letter(Reading),
-    Full,
 }
 
 impl Syllable {
@@ -70,56 +57,41 @@ impl Syllable {
     }
 }
 
-impl Stack {
-    pub fn whole(self, table: &[u8]) -> Reading
-        requires fact_1 { Right table.now }
-        requires fact_2 { Few self }
-        ensures { result ≡ whole_of self }
-    {
-        let tail = self.tail;
-        let size = tail.size(table);
-        Reading {
-            stack: self,
-            bytes: self.letters + size,
-        }
-    }
-}
-
 // One syllable more or, with EMPTY, none; the place behind the last is written either way.
-fn push(items: &mut [u8], r: Stack, code: u8, more: usize, tail: Tail) -> Stack
-    requires { (r.count < length items.old) × (r.count < 4096) × (r.letters ≤ 12288) × (more ≤ 1) }
+fn push(items: &mut [u8], r: Reading, code: u8, more: usize, tail: Tail) -> Reading
+    requires { (r.count < length items.old) × (r.count < 4096) × (r.bytes ≤ 12288) × (more ≤ 1) }
     ensures { Pushed items.old r code more tail items.new result }
 {
     let count = r.count;
     items[count] = code;
-    Stack {
+    Reading {
         count: count + more,
-        letters: r.letters + code as usize,
+        bytes: r.bytes + code as usize,
         tail: tail,
     }
 }
 
 // The place is empty again.
-fn pop(items: &mut [u8], r: Stack, code: u8, tail: Tail) -> Stack
-    requires { (0 < r.count) × (r.count ≤ length items.old) × (code ≤ r.letters) }
+fn pop(items: &mut [u8], r: Reading, code: u8, tail: Tail) -> Reading
+    requires { (0 < r.count) × (r.count ≤ length items.old) × (code ≤ r.bytes) }
     ensures { Popped items.old r code tail items.new result }
 {
     let count = r.count - 1;
     items[count] = EMPTY;
-    Stack {
+    Reading {
         count: count,
-        letters: r.letters - code as usize,
+        bytes: r.bytes - code as usize,
         tail: tail,
     }
 }
 
 // A T with nothing between it and the last syllable, and a Clifford behind it.
-fn cancel(table: &[u8], items: &mut [u8], r: Stack, rest: Tail) -> Stack
+fn cancel(table: &[u8], items: &mut [u8], r: Reading, rest: Tail) -> Reading
     requires fact_1 { Right table.now }
-    requires fact_2 { Stacked items.old r }
-    requires fact_3 { (0 < length items.old) × (r.count ≤ length items.old) × (r.count ≤ 4096) }
+    requires fact_2 { Readable items.old r }
+    requires fact_3 { (r.count < length items.old) × (r.count < 4096) }
     requires fact_4 { Fits rest }
-    ensures { Moves (cancelled (tail_of rest)) items.old r items.new result }
+    ensures { Steps (cancelled (tail_of rest)) items.old r items.new result }
 {
     let count = r.count;
     if count == 0 {
@@ -130,13 +102,13 @@ fn cancel(table: &[u8], items: &mut [u8], r: Stack, rest: Tail) -> Stack
     pop(items, r, last, tail)
 }
 
-// Two letters more, by their numbers, but for the bytes.
-fn advance(table: &[u8], items: &mut [u8], r: Stack, first: u8, second: u8) -> Stack
+// Two letters more, by their numbers.
+fn append_gates(table: &[u8], items: &mut [u8], r: Reading, first: u8, second: u8) -> Reading
     requires fact_1 { Right table.now }
-    requires fact_2 { Stacked items.old r }
+    requires fact_2 { Readable items.old r }
     requires fact_3 { (r.count < length items.old) × (r.count < 4096) }
     requires fact_4 { (first < 6) × (second < 6) }
-    ensures { Moves (pair (letter_at first) (letter_at second)) items.old r items.new result }
+    ensures { Steps (pair (letter_at first) (letter_at second)) items.old r items.new result }
 {
     let tail = r.tail;
     let step = tail.step(table, first, second);
@@ -148,70 +120,6 @@ fn advance(table: &[u8], items: &mut [u8], r: Stack, first: u8, second: u8) -> S
     push(items, r, kind, (kind / 2) as usize, rest)
 }
 
-// Two letters more.
-fn append_gates(table: &[u8], items: &mut [u8], r: Reading, first: u8, second: u8) -> Reading
-    requires fact_1 { Right table.now }
-    requires fact_2 { Readable items.old r }
-    requires fact_3 { (r.stack.count < length items.old) × (r.stack.count < 4096) }
-    requires fact_4 { (first < 6) × (second < 6) }
-    ensures { Steps (pair (letter_at first) (letter_at second)) items.old r items.new result }
-{
-    let stack = r.stack;
-    let next = advance(table, items, stack, first, second);
-    next.whole(table)
-}
-
-// A step's change, where a syllable that is added has its place.
-fn change(table: &[u8], items: &mut [u8], r: Stack, kind: u8, rest: Tail) -> Stack
-    requires fact_1 { Right table.now }
-    requires fact_2 { Stacked items.old r }
-    requires fact_3 { Placed items.old r kind }
-    requires fact_4 { Fits rest }
-    ensures { Moves (changed kind (tail_of rest)) items.old r items.new result }
-{
-    if kind == 0 {
-        return Stack {
-            count: r.count,
-            letters: r.letters,
-            tail: rest,
-        };
-    }
-    if kind == 1 {
-        return cancel(table, items, r, rest);
-    }
-    push(items, r, kind, (kind / 2) as usize, rest)
-}
-
-// Whether a change by this kind needs a place, and there is none.
-fn lacks_place(kind: u8, count: usize, places: usize) -> bool
-    ensures { Decides ((1 < kind) × (count ≡ places)) result }
-{
-    if kind > 1 {
-        return count == places;
-    }
-    false
-}
-
-// One letter more, by its number, in an array that may be full.
-pub fn append_gate(table: &[u8], items: &mut [u8], r: Reading, letter: u8) -> Added
-    requires fact_1 { Right table.now }
-    requires fact_2 { Readable items.old r }
-    requires fact_3 { length items.old ≡ 4096 }
-    requires fact_4 { letter < 6 }
-    ensures { AddsLetter (letter_at letter) items.old r items.new result }
-{
-    let stack = r.stack;
-    let tail = stack.tail;
-    let step = tail.step(table, letter, IDENTITY);
-    let kind = step.kind;
-    if lacks_place(kind, stack.count, items.len()) {
-        return Added::Full;
-    }
-    let rest = step.tail;
-    let next = change(table, items, stack, kind, rest);
-    Added::Letter(next.whole(table))
-}
-
 // The reading of a word, in an array that is empty, with a place for each letter.
 pub fn read_word(table: &[u8], items: &mut [u8], word: &[u8]) -> Read
     requires fact_1 { Right table.now }
@@ -220,12 +128,9 @@ pub fn read_word(table: &[u8], items: &mut [u8], word: &[u8]) -> Read
     ensures { Reads word.now items.new result }
 {
     let mut r = Reading {
-        stack: Stack {
-            count: 0,
-            letters: 0,
-            tail: Tail { code: 0, phase: 0 },
-        },
-        bytes: 1,
+        count: 0,
+        bytes: 0,
+        tail: Tail { code: 0, phase: 0 },
     };
     let mut i: usize = 0;
     while i + 1 < word.len() {

@@ -1,27 +1,27 @@
 // What two letters do to a reading, by look-up: the kind of change to the syllables, and the Clifford behind them.
 ghost use Rattle.std.specs.Prelude.{◌≡◌, ◌<◌};
 ghost use Rattle.clifford.specs.Cliffords.{split_c};
-ghost use Rattle.reading.specs.Steps.{number_of, letter_at, Right, Fits, moved, Stepped, Gained, axis_at, tail_of, SizeIs};
+ghost use Rattle.reading.specs.Steps.{number_of, letter_at, Right, Fits, moved, Stepped, Gained, axis_at, tail_of};
 
 use clifford::{Axis, Clifford, Coset};
 
-// The Clifford (a,b,c,d) by its code 8a + 4b + c and its phase d. The code is no byte: two bytes the compiler copies as one number of 16 bits,
+// The Clifford (a,b,c,d) by its code 8a + 4b + c and its phase d. They are no bytes: two bytes the compiler copies as one number of 16 bits,
 // and it would take that apart and put it together again at each letter.
-#[derive(Drop)]
+#[derive(Clone, Copy)]
 pub struct Tail {
     pub code: usize,
-    pub phase: u8,
+    pub phase: usize,
 }
 
 // The kind is 0 where the syllables stay, 1 where a T meets the last of them, 2 where HT is added and 3 where SHT is.
-#[derive(Drop)]
+#[derive(Clone, Copy)]
 pub(crate) struct Step {
     pub kind: u8,
     pub tail: Tail,
 }
 
 // H, S, X, W and T are 0 to 4 in the table, and I is 5, as is a second letter that is not there.
-pub const IDENTITY: u8 = 5;
+pub(crate) const IDENTITY: u8 = 5;
 
 // A byte that is no letter.
 const OUTSIDE: u8 = 6;
@@ -37,7 +37,7 @@ const PAIRS: usize = 576;
 
 const LETTERS: usize = 648;
 
-pub fn number(table: &[u8], b: u8) -> u8
+pub(crate) fn number(table: &[u8], b: u8) -> u8
     requires { Right table.now }
     ensures { result ≡ number_of b }
 {
@@ -63,12 +63,13 @@ fn axis_at(a: usize) -> Axis
 impl Tail {
     // As an entry of the table has it, and a phase more.
     fn moved(self, entry: u8, more: u8) -> Tail
-        requires { (Fits self) × (more < 8) }
+        requires fact_1 { Fits self }
+        requires fact_2 { more < 8 }
         ensures { result ≡ moved self entry more }
     {
         Tail {
             code: (entry % 32) as usize,
-            phase: (self.phase + entry / 32 + more) % 8,
+            phase: (self.phase + (entry / 32) as usize + more as usize) % 8,
         }
     }
 
@@ -102,18 +103,6 @@ impl Tail {
         self.moved(entry, 0)
     }
 
-    // The letters of it as it is written, one I where it is empty.
-    pub(crate) fn size(self, table: &[u8]) -> usize
-        requires fact_1 { Right table.now }
-        requires fact_2 { Fits self }
-        ensures { SizeIs (tail_of self) result }
-    {
-        let split = self.split(table);
-        let rest = split.rest;
-        let n = self.code / 8 + rest.b as usize + rest.c as usize + rest.d as usize;
-        if n == 0 { 1 } else { n }
-    }
-
     // Its axis, and the Clifford behind it.
     pub fn split(self, table: &[u8]) -> Coset
         requires fact_1 { Right table.now }
@@ -128,7 +117,7 @@ impl Tail {
             a: (code / 8) as u8,
             b: (code / 4 % 2) as u8,
             c: (code % 4) as u8,
-            d: rest.phase,
+            d: rest.phase as u8,
         };
         Coset {
             axis: axis,

@@ -1,4 +1,6 @@
 // The bench record, read from a slice, and its answer, written to a slice, to the byte as in docs/SCOPE.md, The record.
+#![tactic(auto)]
+
 mod lines;
 
 ghost use Rattle.std.specs.Prelude.{◌≡◌, ◌+◌, ◌≤◌, length};
@@ -22,7 +24,7 @@ pub fn input_buffer() -> [u8; LONGEST_RECORD + 1]
 }
 
 // What was read: refusal 0 and the numbers, or refusal 8 and zeros.
-#[derive(Drop)]
+#[derive(Clone, Copy)]
 pub struct Record {
     pub refusal: u8,
     pub k: i64,

@@ -4,13 +4,13 @@ ghost use Rattle.record.specs.Read.{NameIs, FourIs, RingIs, KIs, NIs};
 
 use decimal::{Natural, Whole};
 
-#[derive(Drop)]
+#[derive(Clone, Copy)]
 pub(crate) enum Name {
     Before(usize),
     No,
 }
 
-#[derive(Drop)]
+#[derive(Clone, Copy)]
 pub(crate) enum Four {
     Is {
         a: i64,

@@ -1,14 +1,22 @@
 // A job on a payload, and its answer in text.
-use crate::line::{and_number, and_signed, and_text};
-use crate::slots;
 use clifford::{Axis, Clifford};
 use normal_form::Written;
 use qasm::Edition;
 use record::Record;
 use ring::ZOmega;
 use root_two::{Root, Vect};
-use shown::{number, text};
+use shown::{number, signed, text};
 use unitary::DOmegaUnitary;
+
+fn and_number(x: u64) {
+    text(b" ");
+    number(x);
+}
+
+fn and_signed(x: i64) {
+    text(b" ");
+    signed(x);
+}
 
 fn and_ring(x: ZOmega) {
     and_signed(x.a);
@@ -61,6 +69,12 @@ fn from_gates(word: &[u8]) {
     and_matrix(matrix);
 }
 
+// The whole lent buffer stands behind the counts.
+fn and_lent(lent: &[u8]) {
+    text(b" ");
+    text(lent);
+}
+
 fn counts(answer: Written) {
     number(answer.refusal as u64);
     and_number(answer.place as u64);
@@ -68,17 +82,16 @@ fn counts(answer: Written) {
     and_number(answer.tees as u64);
 }
 
-// The whole lent buffer stands behind the counts.
 fn written(answer: Written, lent: &[u8]) {
     counts(answer);
-    and_text(lent);
+    and_lent(lent);
 }
 
 fn circuit(answer: qasm::Written, lent: &[u8]) {
     number(answer.refusal as u64);
     and_number(answer.place as u64);
     and_number(answer.bytes as u64);
-    and_text(lent);
+    and_lent(lent);
 }
 
 fn write_circuit(edition: Edition, word: &[u8], lent: &mut [u8]) {
@@ -112,7 +125,7 @@ fn synthesise(r: Record, lent: &mut [u8]) {
         tees: answer.tees,
     });
     and_number(answer.steps as u64);
-    and_text(lent);
+    and_lent(lent);
 }
 
 fn t_count(r: Record) {
@@ -163,7 +176,7 @@ fn narrow(x: i64) -> i32 {
 }
 
 // Four numbers of a Clifford, as the record has them.
-#[derive(Drop)]
+#[derive(Clone, Copy)]
 struct Four {
     a: i32,
     b: i32,
@@ -235,7 +248,7 @@ fn of_record(job: u8, r: Record, lent: &mut [u8]) {
     }
 }
 
-// The payload of 2, 3, 5, Q and G is a word, that of R a circuit's text, that of S and L a slot, that of the others a bench record.
+// The payload of 2, 3, 5, Q and G is a word, that of R a circuit's text, that of the others a bench record.
 pub fn answer(job: u8, payload: &[u8], lent: &mut [u8]) {
     match job {
         b'2' => from_gates(payload),
@@ -244,8 +257,6 @@ pub fn answer(job: u8, payload: &[u8], lent: &mut [u8]) {
         b'Q' => write_circuit(Edition::Two, payload, lent),
         b'G' => write_circuit(Edition::Three, payload, lent),
         b'R' => read_circuit(payload, lent),
-        b'S' => slots::answer(job, payload, lent.len()),
-        b'L' => slots::answer(job, payload, lent.len()),
         _ => of_record(job, record::read(payload), lent),
     }
 }

@@ -1,8 +1,8 @@
 // Replays the oracle's sample: runs the job of each request on standard input and writes its answer, a line each. README.md beside src/ has the format.
+#![tactic(auto)]
+
 mod jobs;
-mod line;
 mod requests;
-mod slots;
 
 fn main() {
     let mut payload = [0u8; 10496];

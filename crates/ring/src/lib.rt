@@ -1,4 +1,6 @@
 // Ring numbers a·omega^3 + b·omega^2 + c·omega + d with 64-bit coefficients, after src/ring in the Rust.
+#![tactic(auto)]
+
 ghost use Rattle.std.specs.Prelude.{◌≡◌, ◌+◌, ◌^◌, ◌-◌, ◌≤◌, ◌<◌, T, nat_abs};
 ghost use Rattle.exact.specs.Meaning.Number.{Sized};
 ghost use Rattle.exact.specs.Meaning.Number.{ints, add_q, neg_q, mul_q, conj_q, omega', omega^, root2, root2^, bit, residue};
@@ -10,7 +12,7 @@ ghost use Rattle.exact.specs.Algebra.Twos.{Multiple, Shares};
 ghost use Rattle.ring.specs.Meaning.{quad};
 ghost use Rattle.ring.specs.Number.{Small};
 
-#[derive(Drop)]
+#[derive(Clone, Copy)]
 pub struct ZOmega {
     pub a: i64,
     pub b: i64,

@@ -1,4 +1,6 @@
 // Numbers p + q·root two with 64-bit p and q, and vectors of three.
+#![tactic(auto)]
+
 ghost use Rattle.std.specs.Prelude.{◌≡◌, ◌^◌, ◌≤◌};
 ghost use Rattle.exact.specs.Meaning.Number.{ints};
 ghost use Rattle.exact.specs.Meaning.Rotation.{add_r, times_r, lift, add_v, times_v};
@@ -11,13 +13,13 @@ ghost use Rattle.root_two.specs.Meaning.{root, vect};
 ghost use Rattle.root_two.specs.Code.{Addable, Subtractable};
 ghost use Rattle.root_two.specs.Common.{Common, SharesP, SharesQ};
 
-#[derive(Drop)]
+#[derive(Clone, Copy)]
 pub struct Root {
     pub p: i64,
     pub q: i64,
 }
 
-#[derive(Drop)]
+#[derive(Clone, Copy)]
 pub struct Vect {
     pub x: Root,
     pub y: Root,

@@ -84,25 +84,25 @@ pub record Normed (z w : Ω) : Type 0 where
   pub w_sized : Sized (2 ^ 30) w
   pub up : Up (2 ^ 62) (norms ints z w)
 
-module _ (z w : ZOmega) (h : Normed (quad z) (quad w)) (a b c d : ℤ) (a_is : a ≡ squares ints (quad z)) (b_is : b ≡ squares ints (quad w))
-    (c_is : c ≡ crosses ints (quad z)) (d-is : d ≡ crosses ints (quad w)) where
+module _ (z w : ZOmega) (h : Normed (quad z) (quad w)) (a b c d : ℤ) (a-is : a ≡ squares ints (quad z)) (b-is : b ≡ squares ints (quad w))
+    (c-is : c ≡ crosses ints (quad z)) (d-is : d ≡ crosses ints (quad w)) where
   a_small : nat_abs a ≤ 2 ^ 62
-  a_small = rw a_is (squares_size (quad z) h.z_sized)
+  a_small = rw a-is (squares_size (quad z) h.z_sized)
 
   b_small : nat_abs b ≤ 2 ^ 62
-  b_small = rw b_is (squares_size (quad w) h.w_sized)
+  b_small = rw b-is (squares_size (quad w) h.w_sized)
 
   c_small : nat_abs c ≤ 2 ^ 62
-  c_small = rw c_is (crosses_size (quad z) h.z_sized)
+  c_small = rw c-is (crosses_size (quad z) h.z_sized)
 
   d_small : nat_abs d ≤ 2 ^ 62
   d_small = rw d-is (crosses_size (quad w) h.w_sized)
 
   p_small : nat_abs (a -ℤ b) ≤ 2 ^ 62
-  p_small = rw (a_is, b_is) h.up.p_small
+  p_small = rw (a-is, b-is) h.up.p_small
 
   q_small : nat_abs (c -ℤ d) ≤ 2 ^ 62
-  q_small = rw (c_is, d-is) h.up.q_small
+  q_small = rw (c-is, d-is) h.up.q_small
 
   pub squares_less : SFits w64 (held w64 a -ℤ held w64 b)
   squares_less = difference_fits a b a_small b_small p_small
@@ -114,8 +114,8 @@ module _ (z w : ZOmega) (h : Normed (quad z) (quad w)) (a b c d : ℤ) (a_is : a
       (norms ints (quad z) (quad w))
   norms_is =
       root_path
-      (difference_held a b a_small b_small p_small ∙ ap₂ ◌-ℤ◌ a_is b_is)
-      (difference_held c d c_small d_small q_small ∙ ap₂ ◌-ℤ◌ c_is d-is)
+      (difference_held a b a_small b_small p_small ∙ ap₂ ◌-ℤ◌ a-is b-is)
+      (difference_held c d c_small d_small q_small ∙ ap₂ ◌-ℤ◌ c-is d-is)
 
 -- ---- squares: naively at most 2^62
 module _ (x : ZOmega) (s : Sized (2 ^ 30) (quad x)) where
@@ -178,10 +178,10 @@ module _ (z w : ZOmega) (h : Held (quad z) (quad w)) where
         im_up = high (up_of_neg (twice_im ints (mul_q ints (quad z) (quad w))) h.up.y_up.z_up);
       })
 
-  module _ (c : ZOmega) (c_is : quad c ≡ conj_q ints (quad z)) where
+  module _ (c : ZOmega) (c-is : quad c ≡ conj_q ints (quad z)) where
     pub conj_in : Sized (2 ^ 30) (quad c)
     conj_in =
-        rw c_is
+        rw c-is
         (record {
           a_small = rw (nat_abs_neg z.c) h.z_in.c_small;
           b_small = rw (nat_abs_neg z.b) h.z_in.b_small;
@@ -194,8 +194,8 @@ module _ (z w : ZOmega) (h : Held (quad z) (quad w)) where
         rw e
         (record {
           sized = product_sized (quad c) (quad w) conj_in h.w_in;
-          re_up = rw c_is (high h.up.z_up.x_up);
-          im_up = rw c_is (high h.up.z_up.y_up);
+          re_up = rw c-is (high h.up.z_up.x_up);
+          im_up = rw c-is (high h.up.z_up.y_up);
         })
 
 -- ---- the squares s of z and t of w, and m, twice the product
@@ -232,7 +232,7 @@ minus_fits x n y e h = rw e h
 pub x_made : (s t m : Parts) (n a b c : Root) → root n ≡ neg_r ints (root s.im) → root a ≡ sub_r ints (root s.re) (root t.re)
     → root b ≡ sub_r ints (root n) (root t.im) → root c ≡ neg_r ints (root m.re)
     → vect (record { x = a; y = b; z = c }) ≡ x_of s t m
-x_made s t m n a b c n_is a_is b_is c_is = vect_path a_is (b_is ∙ ap (λ y. sub_r ints y (root t.im)) n_is) c_is
+x_made s t m n a b c n_is a-is b-is c-is = vect_path a-is (b-is ∙ ap (λ y. sub_r ints y (root t.im)) n_is) c-is
 
 pub y_made : (s t m : Parts) (a b c : Root) → root a ≡ sub_r ints (root s.im) (root t.im) → root b ≡ add_r ints (root s.re) (root t.re)
     → root c ≡ neg_r ints (root m.im)
@@ -293,11 +293,11 @@ module _ (z w : ZOmega) (h : Held (quad z) (quad w)) (s t : Parts) (s_is : Squar
 
   pub columns_made : (k : ℕ) (a b v : Vect) → vect a ≡ x_of s t m → vect b ≡ y_of s t m → vect v ≡ (columns ints (quad z) (quad w)).z
       → rotation_of (record { x = a; y = b; z = v; e = k + k }) ≡ record { m = columns ints (quad z) (quad w); e = k + k }
-  columns_made k a b v a_is b_is v-is = λ i. record { m = record { x = (a_is ∙ x_is_x) i; y = (b_is ∙ y_is_y) i; z = v-is i }; e = k + k }
+  columns_made k a b v a-is b-is v-is = λ i. record { m = record { x = (a-is ∙ x_is_x) i; y = (b-is ∙ y_is_y) i; z = v-is i }; e = k + k }
 
 pub z_made : (z w c x : ZOmega) (m : Parts) (d : Root) → quad c ≡ conj_q ints (quad z) → quad x ≡ mul_q ints (quad c) (quad w) → Doubled x m
     → root d ≡ norms ints (quad z) (quad w)
     → vect (record { x = m.re; y = m.im; z = d }) ≡ (columns ints (quad z) (quad w)).z
-z_made z w c x m d c_is x_is m_is d-is =
-    let crossed = x_is ∙ ap (λ a. mul_q ints a (quad w)) c_is in
+z_made z w c x m d c-is x_is m_is d-is =
+    let crossed = x_is ∙ ap (λ a. mul_q ints a (quad w)) c-is in
     vect_path (m_is.re_is ∙ ap (twice_re ints) crossed) (m_is.im_is ∙ ap (twice_im ints) crossed) d-is

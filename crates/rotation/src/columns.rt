@@ -12,7 +12,7 @@ use ring::ZOmega;
 use root_two::{Root, Vect};
 
 // Real and imaginary part.
-#[derive(Drop)]
+#[derive(Clone, Copy)]
 struct Parts {
     re: Root,
     im: Root,

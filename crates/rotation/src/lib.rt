@@ -1,4 +1,6 @@
 // The T count straight from a matrix, and the rotation that the matrix is: no word is made.
+#![tactic(auto)]
+
 ghost use Rattle.std.specs.Prelude.{◌≡◌, ◌≤◌};
 ghost use Rattle.exact.specs.Meaning.Triple.{Unitary};
 ghost use Rattle.exact.specs.Rotation.Worked.{with_n};
@@ -15,7 +17,7 @@ mod depth;
 mod turn;
 
 // What X, Y and Z become, the columns, each over root two to the e.
-#[derive(Drop)]
+#[derive(Clone, Copy)]
 pub struct Rotation {
     pub x: Vect,
     pub y: Vect,
@@ -23,13 +25,13 @@ pub struct Rotation {
     pub e: u8,
 }
 
-#[derive(Drop)]
+#[derive(Clone, Copy)]
 pub struct Answer {
     pub refusal: u8,
     pub rotation: Rotation,
 }
 
-#[derive(Drop)]
+#[derive(Clone, Copy)]
 pub struct Count {
     pub refusal: u8,
     pub tees: u8,

@@ -1,4 +1,6 @@
 // What the case programs write on standard output: text, numbers, and signed numbers.
+#![tactic(auto)]
+
 use libc::STDOUT_FILENO;
 
 pub fn text(s: &[u8]) {

@@ -1,1 +1,2 @@
 // The steps of exact synthesis, as mathematics: no function. specs/ has it.
+#![tactic(auto)]

@@ -117,7 +117,7 @@ module _ (t : DOmegaUnitary) (g : Good t) (h : t.k ≤ deepest) (m : ℕ) where
 
       -- ---- what the step answers: p and q are the residues, b whether k falls
       module _ (some : t.k ≡ 0 → ⊥) (p q : ℕ) (p-is : p ≡ residue (quad t.z)) (q-is : q ≡ residue (quad t.w)) where
-        module _ (m-by : m ≡ power_by p q) (b : Bool) (b_is : b ≡ falls_by p q) (v : DOmegaUnitary) where
+        module _ (m-by : m ≡ power_by p q) (b : Bool) (b-is : b ≡ falls_by p q) (v : DOmegaUnitary) where
           k_is : t.k ≡ suc (t.k - 1)
           k_is = omega (arith, some)
 
@@ -125,7 +125,7 @@ module _ (t : DOmegaUnitary) (g : Good t) (h : t.k ≤ deepest) (m : ℕ) where
           m_is = m-by ∙ ap₂ power_by p-is q-is
 
           falls_is : falls (triple t) ≡ b
-          falls_is = sym (b_is ∙ ap₂ falls_by p-is q-is)
+          falls_is = sym (b-is ∙ ap₂ falls_by p-is q-is)
 
           is : triple s ≡ mod_eight (explicit (power (triple t)) (triple t))
           is = raised_is ∙ ap (λ j. mod_eight (explicit j (triple t))) m_is

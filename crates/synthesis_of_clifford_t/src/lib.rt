@@ -1,4 +1,6 @@
 // Exact synthesis, job 4 (src/synthesis_of_clifford_t.rs in the Rust). specs/ has its mathematics.
+#![tactic(auto)]
+
 ghost use Rattle.std.specs.Prelude.{◌≡◌, ◌+◌, ◌≤◌, ◌<◌, length};
 ghost use Rattle.exact.specs.Meaning.Word.{bytes};
 ghost use Rattle.exact.specs.Meaning.Limits.{deepest};
@@ -23,7 +25,7 @@ use unitary::DOmegaUnitary;
 use writing::Ending;
 
 // What job 4 hands back: the refusal or 0, the bytes written, the T letters among them, and the steps that were taken.
-#[derive(Drop)]
+#[derive(Clone, Copy)]
 pub struct Synthesis {
     pub refusal: u8,
     pub bytes: usize,
@@ -70,7 +72,7 @@ fn falls(z: usize, w: usize) -> bool
 // ---- a step
 
 // m and the next matrix, or none.
-#[derive(Drop)]
+#[derive(Clone, Copy)]
 enum Reduction {
     Step(u8, DOmegaUnitary),
     Ended,
@@ -115,7 +117,7 @@ fn write_block(rest: &mut [u8], m: u8) -> usize
 // ---- the end
 
 // What closes a word at k = 0: T or none, and a tail of X, S and W.
-#[derive(Drop)]
+#[derive(Clone, Copy)]
 struct Closing {
     tees: usize,
     tail: Ending,
@@ -206,7 +208,7 @@ fn write_closing(rest: &mut [u8], t: DOmegaUnitary) -> usize
 // ---- job 4
 
 // How many letters were put, and in how many steps.
-#[derive(Drop)]
+#[derive(Clone, Copy)]
 struct Decomposed {
     len: usize,
     steps: usize,

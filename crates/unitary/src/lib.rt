@@ -1,4 +1,6 @@
 // Triples (z, w, n) over root two to the k in 64 bits, after src/unitary.rs: job 1, reduce and check; job 2, word to matrix.
+#![tactic(auto)]
+
 ghost use Rattle.std.specs.Prelude.{◌≡◌, ◌+◌, ◌^◌, ◌≤◌, ◌<◌, T, pos, nat_abs};
 ghost use Rattle.exact.specs.Meaning.Limits.{largest, deepest};
 ghost use Rattle.exact.specs.Meaning.Number.{Sized};
@@ -22,7 +24,7 @@ ghost use Rattle.unitary.specs.Reducing.{Twos, OnceMore};
 
 use ring::ZOmega;
 
-#[derive(Drop)]
+#[derive(Clone, Copy)]
 pub struct DOmegaUnitary {
     pub z: ZOmega,
     pub w: ZOmega,
@@ -30,13 +32,13 @@ pub struct DOmegaUnitary {
     pub k: u8,
 }
 
-#[derive(Drop)]
+#[derive(Clone, Copy)]
 pub struct Checked {
     pub refusal: u8,
     pub matrix: DOmegaUnitary,
 }
 
-#[derive(Drop)]
+#[derive(Clone, Copy)]
 pub struct FromGates {
     pub refusal: u8,
     pub place: usize,

@@ -1,4 +1,6 @@
 // Job 7, the numeric view: the four entries of a checked triple as eight f64. It stands for `to_complex_matrix`.
+#![tactic(auto)]
+
 ghost use Rattle.view.specs.Meaning.Outcome.{ViewOutcome};
 
 use matrix::{View, entries, nils};
@@ -8,7 +10,7 @@ mod float;
 pub mod matrix;
 mod number;
 
-#[derive(Drop)]
+#[derive(Clone, Copy)]
 pub struct Answer {
     pub refusal: u8,
     pub view: View,

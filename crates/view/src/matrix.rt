@@ -8,7 +8,7 @@ use crate::number::{mul_by_omega_power, parts};
 use ring::ZOmega;
 
 // Row by row: `re` and `im` with i and j are the real and the imaginary part of the entry in row i and column j.
-#[derive(Drop)]
+#[derive(Clone, Copy)]
 pub struct View {
     pub re00: f64,
     pub im00: f64,

@@ -8,7 +8,7 @@ ghost use Rattle.view.specs.Size.{size};
 use crate::float::over;
 use ring::ZOmega;
 
-#[derive(Drop)]
+#[derive(Clone, Copy)]
 pub(crate) struct Complex {
     pub re: f64,
     pub im: f64,

@@ -4,10 +4,10 @@ use Rattle.std.proofs.Common.{sym, ◌∙◌, ap, ap₂, subst, append_assoc, ap
 use Rattle.exact.specs.Meaning.Word.{Letter, byte, bytes}
 use Rattle.exact.specs.Meaning.Normal as normal
 use Rattle.exact.specs.Cases.Letters.{bytes_length}
-use Rattle.reading.specs.declared.Stack.{Stack}
+use Rattle.reading.specs.declared.Reading.{Reading}
 use Rattle.reading.specs.declared.Syllable.{Syllable}
 use Rattle.reading.specs.Readings.{State, syllable, prefix}
-use Rattle.reading.specs.Held.{codes, Stacks}
+use Rattle.reading.specs.Held.{codes, Holds}
 use Rattle.reading.specs.Syllables.{syllable_number, syllable_word, syllable_of, named}
 use Rattle.writing.specs.Put.{Put, put_more, put_length}
 
@@ -34,7 +34,7 @@ codes_word_lem true (s ∷ ss) =
 codes_word_lem false (s ∷ ss) =
     codes_word_append (codes false ss) (syllable_number (named s) ∷ []) ∙ ap₂ (λ u v. u ++ v) (codes_word_lem false ss) (one_code s)
 
-pub held_word : {items : List ℕ} {r : Stack} {st : State} → Stacks items r st
+pub held_word : {items : List ℕ} {r : Reading} {st : State} → Holds items r st
     → codes_word (take r.count items) ≡ prefix st.lead st.stack
 held_word {items} {r} {st} h = ap codes_word h.array.front ∙ codes_word_lem st.lead st.stack
 

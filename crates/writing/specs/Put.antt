@@ -1,6 +1,6 @@
 -- Bytes put into a buffer at a place, and the rest as it was. Assumes nothing.
 use Rattle.std.specs.Prelude.{◌≡◌, refl, List, [], ◌∷◌, ◌++◌, ℕ, ◌+◌, ◌<◌, ◌≤◌, length, take, drop, set, get_or}
-use Rattle.std.proofs.Common.{sym, ◌∙◌, ap, ap₂, append_assoc, add-zero, zero-add, add_assoc, le_antisymm, add-one, arith, length-append, length-drop, take-append-drop, length-take-le, take-suc, take_all, take_at, drop_at, drop-drop}
+use Rattle.std.proofs.Common.{sym, ◌∙◌, ap, ap₂, append_assoc, add-zero, add_assoc, le_antisymm, add-one, arith, length-append, length-drop, take-append-drop, length-take-le, take-suc, take_all, take_at, drop_at, drop-drop}
 use Rattle.std.proofs.lemmas.List.{set_split}
 
 pub record Put (old : List ℕ) (at : ℕ) (w : List ℕ) (new : List ℕ) (r : ℕ) : Type 0 where
@@ -58,16 +58,6 @@ module _ (old : List ℕ) (at : ℕ) (w mid : List ℕ) (a : ℕ) (p : Put old a
     where
       sum : at + length w + length v ≡ at + length (w ++ v)
       sum = add_assoc at (length w) (length v) ∙ ap (λ n. at + n) (sym (length-append w v))
-
--- what stands before it, put later
-pub put_before : (old : List ℕ) (at : ℕ) (w mid : List ℕ) (a : ℕ) → Put old at w mid a → at + length w ≤ length old → (v new : List ℕ) (r : ℕ)
-    → length v ≡ at → Put mid 0 v new r → new ≡ v ++ (w ++ drop (at + length w) old)
-put_before old at w mid a p h v new r e q = q.is ∙ ap (λ x. v ++ x) behind
-  where
-    behind : drop (0 + length v) mid ≡ w ++ drop (at + length w) old
-    behind =
-        ap₂ drop (zero-add (length v) ∙ e) p.is
-        ∙ drop_at (take at old) (w ++ drop (at + length w) old) at (length-take-le at old (omega arith))
 
 -- ---- byte by byte: the first j of the n bytes w are put
 pub record Putting (old : List ℕ) (at : ℕ) (w : List ℕ) (n : ℕ) (buf : List ℕ) (j : ℕ) : Type 0 where

@@ -1,4 +1,6 @@
 // The letters of a normal word, put into a lent buffer: those of its syllables, and those of its tail.
+#![tactic(auto)]
+
 ghost use Rattle.std.specs.Prelude.{◌≡◌, cond, [], ◌∷◌, ◌+◌, ◌≤◌, ◌<◌, eqb, length, replicate, take};
 ghost use Rattle.exact.specs.Meaning.Word.{bytes};
 ghost use Rattle.reading.specs.Steps.{Right, Fits, tail_of};
@@ -14,7 +16,7 @@ use reading::Syllable;
 use reading::steps::Tail;
 
 // How often each letter stands in a tail: S, H, I, X, S and W, in this order.
-#[derive(Drop)]
+#[derive(Clone, Copy)]
 pub struct Ending {
     pub first: usize,
     pub h: usize,

@@ -17,7 +17,7 @@ pub unit_mul : (x : Matrix) → unit · x ≡ x
 unit_mul x = matrix_path (unit_mul_m omegas omegas_laws x.m) (zero-add x.e)
 
 pub mul_unit : (x : Matrix) → x · unit ≡ x
-mul_unit x = matrix_path (mul_m_unit omegas omegas_laws x.m) (native.Mathlib.Nat.add_zero x.e)
+mul_unit x = matrix_path (mul_m_unit omegas omegas_laws x.m) (native.Mathlib.Nat.add-zero x.e)
 
 -- root two to the n times
 abbrev pub lifted : ℕ → Mat Ω → Mat Ω

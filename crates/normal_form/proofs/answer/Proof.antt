@@ -1,7 +1,10 @@
 -- `normal_form::answer` meets its contract. Assumes nothing.
+use mathlib.Core.Path.{refl}
 use borrow.Author.Rules.{rules}
+use Rattle.clifford.specs.Cliffords.{mul_c, inv_c, tconj_c}
 use Rattle.normal_form.specs.Emptied.{blank_by}
 use Rattle.normal_form.specs.Ways.{too_long}
+use Rattle.reading.specs.Steps.{right}
 use Rattle.normal_form.proofs.answer.Statement.{statement}
 use Rattle.normal_form.proofs.answer.Tie as tie
 
@@ -11,9 +14,6 @@ refused-requires c κs = search rules
 returns : tie.Need-returns
 returns c = too_long _ _ _ _ (search rules) (search rules)
 
-reader-table-requires : tie.Need-reader-table-requires
-reader-table-requires c κs = search rules
-
 slice-aggregate-read-and-write : tie.Need-slice-aggregate-read-and-write
 slice-aggregate-read-and-write c = search rules
 
@@ -21,7 +21,8 @@ slice-aggregate-read-and-write-2 : tie.Need-slice-aggregate-read-and-write-2
 slice-aggregate-read-and-write-2 c = search rules
 
 read-and-write-requires : tie.Need-read-and-write-requires
-read-and-write-requires c κs = (search rules, (blank_by _ tt, (search rules, search rules)))
+unfolding mul_c inv_c tconj_c
+read-and-write-requires c κs = (right refl tt, (blank_by _ tt, (search rules, search rules)))
 
 same_length : tie.Need-same-length
 same_length c = search rules
@@ -35,7 +36,6 @@ answer-spec =
     (tie.spec
     refused-requires
     returns
-    reader-table-requires
     slice-aggregate-read-and-write
     slice-aggregate-read-and-write-2
     read-and-write-requires

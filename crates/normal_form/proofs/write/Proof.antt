@@ -1,6 +1,7 @@
 -- `normal_form::write` meets its contract. Assumes nothing.
 use borrow.Author.Rules.{rules}
-use Rattle.normal_form.specs.Answers.{parts_fit, few_within, no_room_for, syllables_room, ending_room, written_for}
+use Rattle.normal_form.specs.Answers.{size_fits, no_room_for, syllables_room, ending_room, written_for}
+use Rattle.reading.specs.Held.{count_within}
 use Rattle.normal_form.proofs.write.Statement.{statement}
 use Rattle.normal_form.proofs.write.Tie as tie
 
@@ -10,11 +11,8 @@ ending-of-requires c κs = search rules
 size-requires : tie.Need-size-requires
 size-requires c κs = search rules
 
-add-bytes-of : tie.Need-overflow-add-bytes-of
-add-bytes-of c = search parts_fit
-
-bytes-of-requires : tie.Need-bytes-of-requires
-bytes-of-requires c κs = search rules
+add-n : tie.Need-overflow-add-n
+add-n c = search size_fits
 
 refused-requires : tie.Need-refused-requires
 refused-requires c κs = search rules
@@ -22,11 +20,11 @@ refused-requires c κs = search rules
 returns : tie.Need-returns
 returns c = search no_room_for
 
+put-syllables-requires : tie.Need-put-syllables-requires
+put-syllables-requires c κs = search (count_within, syllables_room)
+
 put-ending-requires : tie.Need-put-ending-requires
 put-ending-requires c κs = search ending_room
-
-put-syllables-requires : tie.Need-put-syllables-requires
-put-syllables-requires c κs = search (few_within, syllables_room)
 
 same_length : tie.Need-same-length
 same_length c = search rules
@@ -40,11 +38,10 @@ write_spec =
     (tie.spec
     ending-of-requires
     size-requires
-    add-bytes-of
-    bytes-of-requires
+    add-n
     refused-requires
     returns
-    put-ending-requires
     put-syllables-requires
+    put-ending-requires
     same_length
     returns-2)

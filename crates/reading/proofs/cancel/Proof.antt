@@ -1,14 +1,14 @@
 -- `reading::cancel` meets its contract. Assumes nothing.
 use native.Mathlib.Omega.{arith}
 use borrow.Author.Rules.{rules}
-use Rattle.reading.specs.Held.{letters_most, cancel_none, cancel_some, pop_room}
+use Rattle.reading.specs.Held.{bytes_most, cancel_none, cancel_some, pop_room}
 use Rattle.reading.proofs.cancel.Statement.{statement}
 use Rattle.reading.proofs.cancel.Tie as tie
 
 push-requires : tie.Need-push-requires
 push-requires c κs =
     let the-pre = c.before.before.before.before.requires.1 in
-    (search rules, search rules, letters_most the-pre.0.holds (omega arith), omega arith)
+    (search rules, search rules, bytes_most the-pre.0.holds (omega arith), omega arith)
 
 same_length : tie.Need-same-length
 same_length c = search rules

@@ -40,8 +40,8 @@ shared-slice-read-number-2 c = omega arith
 number-requires-2 : tie.Need-number-requires-2 invariant-loop decreases-loop
 number-requires-2 c κs = search rules
 
-add-t17 : tie.Need-overflow-add-t17 invariant-loop decreases-loop
-add-t17 c = omega arith
+add-t16 : tie.Need-overflow-add-t16 invariant-loop decreases-loop
+add-t16 c = omega arith
 
 same-length-2 : tie.Need-same-length-2 invariant-loop decreases-loop
 same-length-2 c = search rules
@@ -121,7 +121,7 @@ read-word-spec =
     add-number
     shared-slice-read-number-2
     number-requires-2
-    add-t17
+    add-t16
     same-length-2
     returns-2
     append-gates-requires

@@ -11,7 +11,7 @@ use Rattle.writing.proofs.put_syllable.Tie as tie
 whole : (c : tie.After-second-letter)
     → let n = c.before.before.before in
     let a = n.before.before.args in
-    a.at + n.letters_in_lem.result ≤ length a.buf.now
+    a.at + n.letters-in.result ≤ length a.buf.now
 whole c = search whole_room
 
 letters-in-requires : tie.Need-letters-in-requires

@@ -1,6 +1,6 @@
 -- `reading::steps::Tail::split` meets its contract. Assumes nothing.
 use borrow.Author.Rules.{rules}
-use Rattle.reading.specs.Steps.{code_narrow, split_at_lem}
+use Rattle.reading.specs.Steps.{code_narrow, phase_narrow, split_at_lem}
 use Rattle.reading.proofs.steps.Tail.split.Statement.{statement}
 use Rattle.reading.proofs.steps.Tail.split.Tie as tie
 
@@ -25,6 +25,9 @@ cast-t13 c = search rules
 cast-t15 : tie.Need-overflow-cast-t15
 cast-t15 c = search rules
 
+cast-t16 : tie.Need-overflow-cast-t16
+cast-t16 c = search phase_narrow
+
 returns : tie.Need-returns
 returns c = search split_at_lem
 
@@ -39,4 +42,5 @@ split-spec =
     cast-t10
     cast-t13
     cast-t15
+    cast-t16
     returns)

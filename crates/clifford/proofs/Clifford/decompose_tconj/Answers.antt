@@ -1,0 +1,7 @@
+-- `clifford::Clifford::decompose_tconj` meets its contract. Assumes nothing.
+use borrow.Author.Rules.{rules}
+use Rattle.clifford.specs.Cliffords.{tconj_by}
+use Rattle.clifford.proofs.Clifford.decompose_tconj.Goals as goal
+
+pub returns : goal.returns
+returns c = search tconj_by

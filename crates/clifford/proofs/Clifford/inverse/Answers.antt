@@ -1,0 +1,7 @@
+-- `clifford::Clifford::inverse` meets its contract. Assumes nothing.
+use borrow.Author.Rules.{rules}
+use Rattle.clifford.specs.Cliffords.{inv_by}
+use Rattle.clifford.proofs.Clifford.inverse.Goals as goal
+
+pub returns : goal.returns
+returns c = search inv_by

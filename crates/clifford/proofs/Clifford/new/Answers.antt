@@ -1,0 +1,7 @@
+-- `clifford::Clifford::new` meets its contract. Assumes nothing.
+use borrow.Author.Rules.{rules}
+use Rattle.clifford.specs.Remainder.{reduced_by}
+use Rattle.clifford.proofs.Clifford.new.Goals as goal
+
+pub returns : goal.returns
+returns c = search reduced_by

@@ -1,0 +1,12 @@
+-- What the loops of `clifford::Clifford::preceded` keep.
+use mathlib.Core.Path.{refl}
+use Prim.Native.Nat.{◌+◌}
+use borrow.Author.Rules.{rules}
+use Rattle.clifford.specs.Moves.{Going, going_on, gone}
+use Rattle.clifford.proofs.Clifford.preceded.Given as goal
+
+abbrev pub invariant-loop-left : goal.invariant-loop-left
+invariant-loop-left l = Going l.b (l.b + l.c) l.initial.q l.q l.left
+
+abbrev pub decreases-loop-left : goal.decreases-loop-left
+decreases-loop-left l = l.left

@@ -1,0 +1,7 @@
+-- `clifford::Clifford::product` meets its contract. Assumes nothing.
+use borrow.Author.Rules.{rules}
+use Rattle.clifford.specs.Cliffords.{mul_by}
+use Rattle.clifford.proofs.Clifford.product.Goals as goal
+
+pub returns : goal.returns
+returns c = search mul_by

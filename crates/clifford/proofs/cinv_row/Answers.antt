@@ -1,0 +1,7 @@
+-- `clifford::cinv_row` meets its contract. Assumes nothing.
+use borrow.Author.Rules.{rules}
+use Rattle.clifford.specs.Tables.{cinv_row}
+use Rattle.clifford.proofs.cinv_row.Goals as goal
+
+pub returns : goal.returns
+returns c = cinv_row c.args.i c.requires

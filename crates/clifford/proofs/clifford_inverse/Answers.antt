@@ -1,0 +1,10 @@
+-- `clifford::clifford_inverse` meets its contract. Assumes nothing.
+use borrow.Author.Rules.{rules}
+use Rattle.clifford.specs.Cliffords.{inverse_job}
+use Rattle.clifford.proofs.clifford_inverse.Goals as goal
+
+pub inverse-requires : goal.inverse-requires
+inverse-requires c = c.new.ensures.ranged
+
+pub returns : goal.returns
+returns c = search inverse_job

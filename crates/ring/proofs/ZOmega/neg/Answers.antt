@@ -1,0 +1,32 @@
+-- `ring::ZOmega::neg` meets its contract: each coefficient by what its size allows.
+use mathlib.Core.Path.{sym, ◌∙◌}
+use Prim.Native.Nat.{◌^◌}
+use lib.IntN.{pos}
+use borrow.Author.Rules.{rules}
+use Rattle.exact.specs.Algebra.Omega.{quad_path}
+use Rattle.exact.specs.Whole.Machine.{arg, lit, ◌∸◌}
+use Rattle.ring.specs.Meaning.{quad}
+use Rattle.ring.specs.Number.{negated, opposite_fits}
+use Rattle.ring.specs.Code.{is₁}
+use Rattle.ring.proofs.ZOmega.neg.Goals as goal
+
+pub overflow_sub-result : goal.overflow_sub-result
+overflow_sub-result c = search opposite_fits
+
+pub overflow_sub-result-2 : goal.overflow_sub-result-2
+overflow_sub-result-2 c = search opposite_fits
+
+pub overflow_sub-result-3 : goal.overflow_sub-result-3
+overflow_sub-result-3 c = search opposite_fits
+
+pub overflow_sub-result-4 : goal.overflow_sub-result-4
+overflow_sub-result-4 c = search opposite_fits
+
+pub returns : goal.returns
+returns c =
+    quad_path
+    (search (rules, is₁ (2 ^ 31) (lit (pos 0) ∸ arg 0) tt))
+    (search (rules, is₁ (2 ^ 31) (lit (pos 0) ∸ arg 1) tt))
+    (search (rules, is₁ (2 ^ 31) (lit (pos 0) ∸ arg 2) tt))
+    (search (rules, is₁ (2 ^ 31) (lit (pos 0) ∸ arg 3) tt))
+    ∙ sym (negated (quad c.args.self))
