@@ -5,6 +5,8 @@ ghost use Rattle.std.specs.Prelude.{◌≡◌, ◌&&◌, ◌+◌, ◌≤◌, ◌
 ghost use Rattle.circuit_reader.specs.Reading.{Along, MatchIs, LineIs, TailIs, GateIs, DaggerIs, SameIs, Heading, Headed};
 ghost use Rattle.circuit_reader.specs.Reading.{WalkIs};
 
+use exact::both;
+
 #[derive(Clone, Copy)]
 pub enum Walked {
     Stopped(usize),
@@ -205,12 +207,6 @@ fn lines_from(text: &[u8], start: usize, phase: bool) -> Walked
         }
     }
     Walked::Circuit { start, letters }
-}
-
-fn both(a: bool, b: bool) -> bool
-    ensures { result ≡ a && b }
-{
-    if a { b } else { false }
 }
 
 // Whether a word stands at a place: every byte is compared, so that many go at once.

@@ -1,7 +1,7 @@
 // The limits and the refusals by number (docs/SCOPE.md). The mathematics that every contract cites stands in specs/.
 #![tactic(auto)]
 
-ghost use Rattle.std.specs.Prelude.{◌≡◌, length};
+ghost use Rattle.std.specs.Prelude.{◌≡◌, ◌&&◌, length};
 ghost use Rattle.exact.specs.Meaning.Limits.{enough};
 
 // A word's letters, and a reading's syllables.
@@ -35,9 +35,20 @@ pub const STATEMENT: u8 = 9;
 
 pub const PHASE: u8 = 10;
 
+pub const SLOT: u8 = 17;
+
+pub const FULL: u8 = 18;
+
 // Zeros, as many as are always enough, for a synthesised word.
 pub fn word_buffer() -> [u8; ENOUGH]
     ensures { enough ≡ length result }
 {
     [0; ENOUGH]
+}
+
+// Both, without a branch.
+pub fn both(a: bool, b: bool) -> bool
+    ensures { result ≡ a && b }
+{
+    if a { b } else { false }
 }

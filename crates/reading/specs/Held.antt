@@ -38,7 +38,7 @@ codes_push {items} {n} {cs} x h l =
       empty = λ i k. get_or-set_other items n i x 0 (λ e. omega arith) ∙ h.empty i (omega arith);
     }
 
--- nothing written behind them is nothing changed
+-- nothing written behind them is nothing by_kind
 codes_keep : {items : List ℕ} {n : ℕ} {cs : List ℕ} → Codes items n cs → n < length items → Codes (set items n 0) n cs
 codes_keep {items} {n} {cs} h l =
     record {
@@ -83,7 +83,7 @@ module _ {items : List ℕ} {n : ℕ} (cs : List ℕ) (x : ℕ) (h : Codes items
       ∙ ap₂ (λ u k. get_or u k 0) h.front less_is
       ∙ get_or-append_seam cs x [] 0
 
-codes_within : {items : List ℕ} {n : ℕ} {cs : List ℕ} → Codes items n cs → n ≤ length items
+pub codes_within : {items : List ℕ} {n : ℕ} {cs : List ℕ} → Codes items n cs → n ≤ length items
 codes_within {items} {n} h = omega (arith, length-take n items, ap length h.front, h.count)
 
 -- ---- the codes of a reading
@@ -130,14 +130,14 @@ abbrev pub pair : Letter → Letter → State → State
 pair l m st = read m (read l st)
 
 -- ---- sizes
-codes_length : (b : Bool) (ss : List normal.Syllable) → length (codes b ss) ≡ size b ss
+pub codes_length : (b : Bool) (ss : List normal.Syllable) → length (codes b ss) ≡ size b ss
 codes_length true [] = refl
 codes_length false [] = refl
 codes_length true (s ∷ ss) = omega (arith, length-append (codes true ss) (syllable_number (named s) ∷ []), codes_length true ss)
 codes_length false (s ∷ ss) = omega (arith, length-append (codes false ss) (syllable_number (named s) ∷ []), codes_length false ss)
 
 -- a syllable's bytes are as many as its number
-longer : (b : Bool) (s : normal.Syllable) (ss : List normal.Syllable)
+pub longer : (b : Bool) (s : normal.Syllable) (ss : List normal.Syllable)
     → length (prefix b (s ∷ ss)) ≡ length (prefix b ss) + syllable_number (named s)
 longer b s ss = omega (arith, prefix_length b s ss, ap length (named_word s), syllable_size (named s))
 
@@ -149,8 +149,11 @@ prefix_few b (s ∷ ss) = omega (arith, longer b s ss, syllable_few (named s), p
 pub count_is : {items : List ℕ} {r : Reading} {st : State} → Holds items r st → r.count ≡ size_of st
 count_is {st = st} h = h.array.count ∙ codes_length st.lead st.stack
 
+pub bytes_few : {items : List ℕ} {r : Reading} {st : State} → Holds items r st → r.bytes ≤ 3 * r.count
+bytes_few {st = st} h = omega (arith, h.bytes_is, prefix_few st.lead st.stack, count_is h)
+
 pub bytes_most : {items : List ℕ} {r : Reading} {st : State} → Holds items r st → r.count ≤ 4096 → r.bytes ≤ 12288
-bytes_most {st = st} h l = omega (arith, h.bytes_is, prefix_few st.lead st.stack, count_is h)
+bytes_most h l = omega (arith, bytes_few h)
 
 -- ---- adding a syllable, or none
 module _ {old : List ℕ} {r : Reading} {tail : Tail} {new : List ℕ} {n : Reading} (l : r.count < length old) (k : Fits tail) where
@@ -236,7 +239,7 @@ module _ {old : List ℕ} {r : Reading} (f : r.count ≡ 0 → ⊥) where
 -- ---- a T that meets the last syllable
 pub cancel_none : {old : List ℕ} {r : Reading} {rest : Tail} {new : List ℕ} {n : Reading}
     → r.count ≡ 0
-    → r.count < length old
+    → 0 < length old
     → Fits rest
     → Pushed old r 1 1 rest new n
     → Steps (cancelled (tail_of rest)) old r new n
@@ -246,7 +249,7 @@ cancel_none {old} {r} {rest} {new} {n} e l k p = record { step = λ st h. go st.
         → Holds old r (state b ss q)
         → Holds new n (tee Axis.I (tail_of rest) b ss)
     go true [] q h = absurd (omega (arith, count_is h))
-    go false [] q h = first_holds l k h p
+    go false [] q h = first_holds (omega arith) k h p
     go true (s ∷ ss) q h = absurd (omega (arith, count_is h))
     go false (s ∷ ss) q h = absurd (omega (arith, count_is h))
 
@@ -282,49 +285,89 @@ cancel_some {old} {r} {rest} {tail} {new} {n} f g p = record { step = λ st h. g
     go b (normal.HT ∷ ss) q h = popped b normal.HT ss q h
     go b (normal.SHT ∷ ss) q h = popped b normal.SHT ss q h
 
--- ---- two letters, by their kind
+-- ---- a change by its kind
+abbrev pub by_kind : ℕ → Clifford → State → State
+by_kind kind q st = after kind q st.lead st.stack
+
+-- a syllable that is added has its place
+pub record Placed (items : List ℕ) (r : Reading) (kind : ℕ) : Type 0 where
+  pub some : 0 < length items
+  pub few : r.count ≤ 4096
+  pub kinds : kind ≤ 3
+  pub place : 1 < kind → (r.count < length items) × (r.count < 4096)
+
+module _ {old : List ℕ} {r : Reading} (rest : Tail) where
+  pub keeps : {kind : ℕ} → kind ≡ 0 → Fits rest
+      → Steps (by_kind kind (tail_of rest)) old r old (record { count = r.count; bytes = r.bytes; tail = rest })
+  keeps e k =
+      record {
+        step = λ st h. rw e (record { array = h.array; bytes_is = h.bytes_is; tail_is = refl; fits = k });
+      }
+
+  module _ {kind : ℕ} {new : List ℕ} {n : Reading} where
+    pub cancels : kind ≡ 1 → Steps (cancelled (tail_of rest)) old r new n → Steps (by_kind kind (tail_of rest)) old r new n
+    cancels e p = record { step = λ st h. rw e (p.step st h) }
+
+    pub puts : (kind ≡ 1 → ⊥) → kind ≤ 3 → r.count < length old → Fits rest → Pushed old r kind (kind / 2) rest new n
+        → Steps (by_kind kind (tail_of rest)) old r new n
+    puts f c k w p = record { step = go kind f c p }
+      where
+        go : (kind : ℕ) → (kind ≡ 1 → ⊥) → kind ≤ 3 → Pushed old r kind (kind / 2) rest new n → (st : State) → Holds old r st
+            → Holds new n (by_kind kind (tail_of rest) st)
+        go zero f c p st h = kept_holds k w h p
+        go (suc zero) f c p st h = absurd (f refl)
+        go (suc (suc zero)) f c p st h = push_holds k w normal.HT h p
+        go (suc (suc (suc zero))) f c p st h = push_holds k w normal.SHT h p
+        go (suc (suc (suc (suc j)))) f c p st h = absurd (omega arith)
+
+    pub puts_placed : (kind ≡ 0 → ⊥) → (kind ≡ 1 → ⊥) → Placed old r kind → Fits rest → Pushed old r kind (kind / 2) rest new n
+        → Steps (by_kind kind (tail_of rest)) old r new n
+    puts_placed f g h = puts g h.kinds (h.place (omega (arith, f, g))).0
+
+-- what it asks of the functions that make it
+module _ {items : List ℕ} {r : Reading} {kind : ℕ} (s : Readable items r) (h : Placed items r kind) where
+  pub count_room : r.count ≤ length items
+  count_room = count_within s.holds
+
+  pub bytes_room : r.bytes ≤ 12288
+  bytes_room = bytes_most s.holds h.few
+
+module _ {items : List ℕ} {r : Reading} {kind : ℕ} (h : Placed items r kind) (f : kind ≡ 0 → ⊥) (g : kind ≡ 1 → ⊥) where
+  pub place_there : r.count < length items
+  place_there = (h.place (omega (arith, f, g))).0
+
+  pub place_few : r.count < 4096
+  place_few = (h.place (omega (arith, f, g))).1
+
+  pub one_most : kind / 2 ≤ 1
+  one_most = omega (arith, h.kinds)
+
+-- ---- two letters
 pub kind_most : {l m : Letter} {t : Tail} {s : Step} → Stepped l m t s → s.kind ≤ 3
 kind_most {l} {m} {t} w = omega (arith, w.kind_is, kind_few l m (tail_of t))
 
-module _ {old : List ℕ} {r : Reading} {l m : Letter} {s : Step} {new : List ℕ} {n : Reading} where
-  changed : Stepped l m r.tail s
-      → (st : State)
-      → Holds old r st
-      → Holds new n (after s.kind (tail_of s.tail) st.lead st.stack)
-      → Holds new n (pair l m st)
-  changed w st h =
-      subst (Holds new n)
-      (sym
-      (two l m st (subst Ranged h.tail_is (fits_ranged r.tail h.fits))
-      ∙ ap₂ (λ (k : ℕ) (x : Clifford). after k x st.lead st.stack)
+-- what they do is the change of their step
+module _ {old : List ℕ} {r : Reading} {l m : Letter} {s : Step} (w : Stepped l m r.tail s) where
+  pub pair_is : (st : State) → Holds old r st → pair l m st ≡ by_kind s.kind (tail_of s.tail) st
+  pair_is st h =
+      two l m st (subst Ranged h.tail_is (fits_ranged r.tail h.fits))
+      ∙ ap₂ (λ (k : ℕ) (x : Clifford). by_kind k x st)
       (ap (kind₂ l m) (sym h.tail_is) ∙ sym w.kind_is)
-      (ap (next₂ l m) (sym h.tail_is) ∙ sym w.tail_is)))
+      (ap (next₂ l m) (sym h.tail_is) ∙ sym w.tail_is)
 
-  pub meets : Stepped l m r.tail s
-      → s.kind ≡ 1
-      → Steps (cancelled (tail_of s.tail)) old r new n
-      → Steps (pair l m) old r new n
-  meets w e p = record { step = λ st h. changed w st h (rw e (p.step st h)) }
+  module _ {new : List ℕ} {n : Reading} where
+    changed : (st : State) → Holds old r st → Holds new n (after s.kind (tail_of s.tail) st.lead st.stack) → Holds new n (pair l m st)
+    changed st h = subst (Holds new n) (sym (pair_is st h))
 
-  pub adds : Stepped l m r.tail s
-      → (s.kind ≡ 1 → ⊥)
-      → r.count < length old
-      → Pushed old r s.kind (s.kind / 2) s.tail new n
-      → Steps (pair l m) old r new n
-  adds w f k p = record { step = λ st h. changed w st h (go s.kind f (kind_most w) p st h) }
-    where
-      go : (kind : ℕ)
-          → (kind ≡ 1 → ⊥)
-          → kind ≤ 3
-          → Pushed old r kind (kind / 2) s.tail new n
-          → (st : State)
-          → Holds old r st
-          → Holds new n (after kind (tail_of s.tail) st.lead st.stack)
-      go zero f c p st h = kept_holds k w.fits h p
-      go (suc zero) f c p st h = absurd (f refl)
-      go (suc (suc zero)) f c p st h = push_holds k w.fits normal.HT h p
-      go (suc (suc (suc zero))) f c p st h = push_holds k w.fits normal.SHT h p
-      go (suc (suc (suc (suc j)))) f c p st h = absurd (omega arith)
+    pub follows : Steps (by_kind s.kind (tail_of s.tail)) old r new n → Steps (pair l m) old r new n
+    follows p = record { step = λ st h. changed st h (p.step st h) }
+
+    pub meets : s.kind ≡ 1 → Steps (cancelled (tail_of s.tail)) old r new n → Steps (pair l m) old r new n
+    meets e p = follows (cancels s.tail e p)
+
+    pub adds : (s.kind ≡ 1 → ⊥) → r.count < length old → Pushed old r s.kind (s.kind / 2) s.tail new n
+        → Steps (pair l m) old r new n
+    adds f k p = follows (puts s.tail f (kind_most w) k w.fits p)
 
 -- ---- a word
 pub count_few : (items : List ℕ) (r : Reading) (w : List ℕ) (i : ℕ)

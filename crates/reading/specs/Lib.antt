@@ -4,5 +4,6 @@ pub mod Pairs
 pub mod Syllables
 pub mod Steps
 pub mod Held
+pub mod Texts
 pub mod Letters
 pub mod Reader

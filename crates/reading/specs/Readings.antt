@@ -1,7 +1,7 @@
 -- Readings: syllables and a Clifford. Reading a letter keeps the matrix of the letters read and the shape, a T at most in front and then
 -- HT and SHT. So every word has a normal word, and its length and T letters are known before it is written. Assumes nothing.
-use Rattle.std.specs.Prelude.{◌≡◌, refl, Bool, true, false, cond, List, [], ◌∷◌, ◌++◌, ℕ, ◌+◌, ◌≤◌, length}
-use Rattle.std.proofs.Common.{sym, ◌∙◌, ap, ap₂, append_assoc, append-nil, arith, length-append}
+use Rattle.std.specs.Prelude.{◌≡◌, refl, Bool, true, false, cond, List, [], ◌∷◌, ◌++◌, ℕ, zero, suc, ◌+◌, ◌≤◌, eqb, length}
+use Rattle.std.proofs.Common.{sym, ◌∙◌, ap, ap₂, append_assoc, append-nil, arith, ne_eqb, length-append}
 use Rattle.exact.specs.Meaning.Matrix.{Same}
 use Rattle.exact.specs.Meaning.Word.{Letter, I, H, S, X, W, T', word, tees}
 use Rattle.exact.specs.Meaning.Normal.{Syllable, HT, SHT, Front, nothing, onlyH, onlySH, Tail, Shape, Fits, Normal, times, front_word, tail_word, or_i}
@@ -14,7 +14,7 @@ use Rattle.clifford.specs.declared.Axis.{Axis}
 use Rattle.clifford.specs.declared.Axis.TheVariants as Axis
 use Rattle.clifford.specs.declared.Clifford.{Clifford}
 use Rattle.clifford.specs.declared.Coset.{Coset}
-use Rattle.clifford.specs.Meaning.{letters, axis_word, Ranged, Split}
+use Rattle.clifford.specs.Meaning.{letters, axis_word, axis_number, Ranged, Split}
 use Rattle.clifford.specs.Words.{◌≈◌, by_test, by_refl, by_eq, by_sym, ◌⨾◌, under, before}
 use Rattle.clifford.specs.Cliffords.{mul_c, mul_right, mul_ranged, split_c, split_right, tconj_c, tconj_ranged, tconj_same, few, clifford_i, clifford_x}
 use Rattle.clifford.specs.Cliffords.{clifford_s, clifford_w, clifford_h, clifford_HS, clifford_SHS, H_is, HS_is, SHS_is, H_ranged}
@@ -172,7 +172,7 @@ front_of Axis.SH = onlySH
 abbrev pub tail_at : Coset → Tail
 tail_at r = record { front = front_of r.axis; xs = r.rest.b; ss = r.rest.c; ws = r.rest.d }
 
-abbrev turned : List Syllable → List Syllable → List Syllable
+abbrev pub turned : List Syllable → List Syllable → List Syllable
 turned [] acc = acc
 turned (s ∷ ss) acc = turned ss (s ∷ acc)
 
@@ -207,7 +207,7 @@ front_is Axis.I = refl
 front_is Axis.H = refl
 front_is Axis.SH = refl
 
-tail_is : (x : Clifford) (r : Coset) → Split x r → letters x ≈ tail_word (tail_at r)
+pub tail_is : (x : Clifford) (r : Coset) → Split x r → letters x ≈ tail_word (tail_at r)
 tail_is x r p =
     let behind = times r.rest.b X ++ (times r.rest.c S ++ times r.rest.d W) in
     record { same = p.same }
@@ -239,6 +239,45 @@ pub normal_of : (u : List Letter) → Same (word u) (word (spell (shape u)))
 normal_of u = (run_same start u start_ranged ⨾ normal_same (run start u) (run_ranged start u start_ranged)).same
 
 -- ---- length and T letters
+pub times_length : (n : ℕ) (l : Letter) → length (times n l) ≡ n
+times_length zero l = refl
+times_length (suc n) l = ap suc (times_length n l)
+
+-- a tail's letters as they are written, one I where there is none
+abbrev pub tail_size : Clifford → ℕ
+tail_size q = length (or_i (tail_word (tail_at (split_c q))))
+
+or_i_length : (u : List Letter) → length (or_i u) ≡ cond (eqb (length u) 0) 1 (length u)
+or_i_length [] = refl
+or_i_length (l ∷ u) = ap (λ (b : Bool). cond b 1 (length (l ∷ u))) (sym (ne_eqb (length (l ∷ u)) 0 (λ e. omega arith)))
+
+front_length : (a : Axis) → length (front_word (front_of a)) ≡ axis_number a
+front_length Axis.I = refl
+front_length Axis.H = refl
+front_length Axis.SH = refl
+
+-- counted by its axis and the Clifford behind it
+abbrev pub letters_in : Coset → ℕ
+letters_in r = axis_number r.axis + r.rest.b + r.rest.c + r.rest.d
+
+pub tail_size_lem : (q : Clifford) → tail_size q ≡ cond (eqb (letters_in (split_c q)) 0) 1 (letters_in (split_c q))
+tail_size_lem q = or_i_length (tail_word (tail_at (split_c q))) ∙ ap (λ (n : ℕ). cond (eqb n 0) 1 n) whole
+  where
+    r : Coset
+    r = split_c q
+
+    whole : length (tail_word (tail_at r)) ≡ letters_in r
+    whole = simp (length-append, times_length) (omega (arith, front_length r.axis))
+
+-- the bytes of the text of a reading
+abbrev pub text_size : State → ℕ
+text_size st = length (spell (shape_of st))
+
+pub text_size_lem : (st : State) → text_size st ≡ length (prefix st.lead st.stack) + tail_size st.q
+text_size_lem st =
+    ap length (spelled st (tail_at (split_c st.q)))
+    ∙ length-append (prefix st.lead st.stack) (or_i (tail_word (tail_at (split_c st.q))))
+
 abbrev pub size : Bool → List Syllable → ℕ
 size b ss = cond b 1 0 + length ss
 
@@ -267,7 +306,7 @@ tee_size Axis.I r false [] = omega arith
 abbrev pub size_of : State → ℕ
 size_of st = size st.lead st.stack
 
-read_size : (l : Letter) (st : State) → size_of (read l st) ≤ size_of st + 1
+pub read_size : (l : Letter) (st : State) → size_of (read l st) ≤ size_of st + 1
 read_size I st = omega arith
 read_size H st = omega arith
 read_size S st = omega arith

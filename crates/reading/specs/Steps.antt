@@ -1,7 +1,7 @@
 -- The table of two letters, of syllables that a T meets, of Cliffords less their axes and of the letters' numbers: each part proved right
 -- by one computed test over its rows. Assumes nothing.
 use Rattle.std.specs.Prelude.{◌≡◌, refl, Bool, true, false, cond, ◌&&◌, List, ℕ, zero, suc, ◌+◌, ◌-◌, ◌*◌, ◌/◌, ◌%◌, ◌<◌, ◌≤◌, T, ltb, eqb, get_or, length}
-use Rattle.std.proofs.Common.{sym, ◌∙◌, ap, subst, arith, eqb-true, ltb→lt, eqb→eq, Fits as FitsIn}
+use Rattle.std.proofs.Common.{sym, ◌∙◌, ap, subst, arith, eqb-true, ne_eqb, ltb→lt, eqb→eq, Fits as FitsIn}
 use Rattle.std.proofs.Math.Facts.{and_yes}
 use Rattle.std.specs.Int.{w8}
 use Rattle.exact.specs.Meaning.Word.{Letter, I, H, S, X, W, T', byte, IsLetter}
@@ -16,6 +16,7 @@ use Rattle.clifford.specs.Meaning.{Ranged, axis_number}
 use Rattle.clifford.specs.Unique.{axis_at_lem}
 use Rattle.clifford.specs.Tables.{quadruple, all, at}
 use Rattle.clifford.specs.Cliffords.{mul_c, split_c, split_right}
+use Rattle.reading.specs.Readings.{tail_size, letters_in, tail_size_lem}
 use Rattle.reading.specs.Pairs.{kind₂, next₂, eq_clifford, eq_clifford_is}
 use Rattle.reading.specs.Syllables.{syllable_of, made}
 
@@ -223,6 +224,11 @@ module _ (rows : List ℕ) (right : Right rows) (first second : ℕ) (hf : first
       g : Fits (moved t entry (row / 32)) × (tail_of (moved t entry (row / 32)) ≡ next₂ l m (tail_of t))
       g = given entry (row / 32) t (next₂ l m (tail_of t)) s.1
 
+-- n letters are written for the tail q
+pub record SizeIs (q : Clifford) (n : ℕ) : Type 0 where
+  pub is : n ≡ tail_size q
+  pub few : n ≤ 13
+
 pub record Gained (s : ℕ) (t r : Tail) : Type 0 where
   pub tail_is : tail_of r ≡ mul_c (made (syllable_of s)) (tail_of t)
   pub fits : Fits r
@@ -252,6 +258,26 @@ module _ (rows : List ℕ) (right : Right rows) (t : Tail) (h : Fits t) where
       (at 8 (axis_test rows t.code)
       (at 24 (λ g. all 8 (axis_test rows g)) right.axes t.code h.code_few) t.phase h.phase_few)
       ).1
+
+-- ---- the letters of a Clifford as they are written
+module _ (t : Tail) (h : Fits t) (r : Coset) (e : r ≡ split_c (tail_of t)) where
+  letters_in_lem : t.code / 8 + r.rest.b + r.rest.c + r.rest.d ≡ letters_in (split_c (tail_of t))
+  letters_in_lem = omega (arith, (split_right (tail_of t) (fits_ranged t h)).axis_is, ap letters_in e, ap (λ (s : Coset). axis_number s.axis) e)
+
+  size_few : t.code / 8 + r.rest.b + r.rest.c + r.rest.d ≤ 13
+  size_few =
+      let p : Ranged r.rest = rw e (split_right (tail_of t) (fits_ranged t h)).ranged in
+      omega (arith, h.code_few, p.b_few, p.c_few, p.d_few)
+
+  module _ (n : ℕ) (f : n ≡ t.code / 8 + r.rest.b + r.rest.c + r.rest.d) where
+    sized : tail_size (tail_of t) ≡ cond (eqb n 0) 1 n
+    sized = tail_size_lem (tail_of t) ∙ ap (λ (m : ℕ). cond (eqb m 0) 1 m) (sym (f ∙ letters_in_lem))
+
+    pub size_none : n ≡ 0 → SizeIs (tail_of t) 1
+    size_none z = record { is = sym (sized ∙ ap (λ (m : ℕ). cond (eqb m 0) 1 m) z); few = omega arith }
+
+    pub size_some : (n ≡ 0 → ⊥) → SizeIs (tail_of t) n
+    size_some z = record { is = sym (sized ∙ ap (λ (b : Bool). cond b 1 n) (ne_eqb n 0 z)); few = omega (arith, size_few) }
 
 abbrev pub axis_at : ℕ → Axis
 axis_at zero = Axis.I

@@ -2,10 +2,12 @@
 #![tactic(auto)]
 
 ghost use Rattle.std.specs.Prelude.{◌≡◌, ◌+◌, ◌≤◌, ◌<◌, length};
+ghost use Rattle.exact.specs.Meaning.Outcome.{Decides};
 ghost use Rattle.reading.specs.Readings.{read};
 ghost use Rattle.reading.specs.Steps.{letter_at, Right, Fits, tail_of};
 ghost use Rattle.reading.specs.Syllables.{syllable_of};
-ghost use Rattle.reading.specs.Held.{Blank, Readable, Steps, Pushed, Popped, cancelled, pair};
+ghost use Rattle.reading.specs.Held.{Blank, Readable, Steps, Pushed, Popped, Placed, cancelled, by_kind, pair};
+ghost use Rattle.reading.specs.Texts.{whole_of, Few, ReadableText, AddsLetter};
 ghost use Rattle.reading.specs.Letters.{Reads};
 
 use crate::steps::{IDENTITY, Tail, number};
@@ -33,11 +35,25 @@ pub struct Reading {
     pub tail: Tail,
 }
 
+// The same, and the bytes of the text of it all, in which an empty tail is one I.
+#[derive(Clone, Copy)]
+pub struct Text {
+    pub reading: Reading,
+    pub bytes: usize,
+}
+
 // A word's reading, or the first place of a byte that is no letter.
 #[derive(Clone, Copy)]
 pub enum Read {
     Word(Reading),
     Outside(usize),
+}
+
+// A text with a letter more, or that there is no place for the syllable it needs.
+#[derive(Clone, Copy)]
+pub enum Added {
+    Letter(Text),
+    Full,
 }
 
 impl Syllable {
@@ -54,6 +70,21 @@ impl Syllable {
             return Syllable::SHT;
         }
         Syllable::I
+    }
+}
+
+impl Reading {
+    pub fn whole(self, table: &[u8]) -> Text
+        requires table_right { Right table.now }
+        requires few { Few self }
+        ensures { result ≡ whole_of self }
+    {
+        let tail = self.tail;
+        let size = tail.size(table);
+        Text {
+            reading: self,
+            bytes: self.bytes + size,
+        }
     }
 }
 
@@ -89,7 +120,7 @@ fn pop(items: &mut [u8], r: Reading, code: u8, tail: Tail) -> Reading
 fn cancel(table: &[u8], items: &mut [u8], r: Reading, rest: Tail) -> Reading
     requires fact_1 { Right table.now }
     requires fact_2 { Readable items.old r }
-    requires fact_3 { (r.count < length items.old) × (r.count < 4096) }
+    requires fact_3 { (0 < length items.old) × (r.count ≤ length items.old) × (r.count ≤ 4096) }
     requires fact_4 { Fits rest }
     ensures { Steps (cancelled (tail_of rest)) items.old r items.new result }
 {
@@ -118,6 +149,57 @@ fn append_gates(table: &[u8], items: &mut [u8], r: Reading, first: u8, second: u
         return cancel(table, items, r, rest);
     }
     push(items, r, kind, (kind / 2) as usize, rest)
+}
+
+// A step's change, where a syllable that is added has its place.
+fn change(table: &[u8], items: &mut [u8], r: Reading, kind: u8, rest: Tail) -> Reading
+    requires table_right { Right table.now }
+    requires readable { Readable items.old r }
+    requires placed { Placed items.old r kind }
+    requires rest_fits { Fits rest }
+    ensures { Steps (by_kind kind (tail_of rest)) items.old r items.new result }
+{
+    if kind == 0 {
+        return Reading {
+            count: r.count,
+            bytes: r.bytes,
+            tail: rest,
+        };
+    }
+    if kind == 1 {
+        return cancel(table, items, r, rest);
+    }
+    push(items, r, kind, (kind / 2) as usize, rest)
+}
+
+// Whether a change by this kind needs a place, and there is none.
+fn lacks_place(kind: u8, count: usize, places: usize) -> bool
+    ensures { Decides ((1 < kind) × (count ≡ places)) result }
+{
+    if kind > 1 {
+        return count == places;
+    }
+    false
+}
+
+// One letter more, by its number, in an array that may be full.
+pub fn append_gate(table: &[u8], items: &mut [u8], r: Text, letter: u8) -> Added
+    requires table_right { Right table.now }
+    requires readable { ReadableText items.old r }
+    requires places { length items.old ≡ 4096 }
+    requires letter_few { letter < 6 }
+    ensures { AddsLetter (letter_at letter) items.old r items.new result }
+{
+    let reading = r.reading;
+    let tail = reading.tail;
+    let step = tail.step(table, letter, IDENTITY);
+    let kind = step.kind;
+    if lacks_place(kind, reading.count, items.len()) {
+        return Added::Full;
+    }
+    let rest = step.tail;
+    let next = change(table, items, reading, kind, rest);
+    Added::Letter(next.whole(table))
 }
 
 // The reading of a word, in an array that is empty, with a place for each letter.

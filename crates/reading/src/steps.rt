@@ -1,7 +1,7 @@
 // What two letters do to a reading, by look-up: the kind of change to the syllables, and the Clifford behind them.
 ghost use Rattle.std.specs.Prelude.{◌≡◌, ◌<◌};
 ghost use Rattle.clifford.specs.Cliffords.{split_c};
-ghost use Rattle.reading.specs.Steps.{number_of, letter_at, Right, Fits, moved, Stepped, Gained, axis_at, tail_of};
+ghost use Rattle.reading.specs.Steps.{number_of, letter_at, Right, Fits, moved, Stepped, Gained, axis_at, tail_of, SizeIs};
 
 use clifford::{Axis, Clifford, Coset};
 
@@ -21,7 +21,7 @@ pub(crate) struct Step {
 }
 
 // H, S, X, W and T are 0 to 4 in the table, and I is 5, as is a second letter that is not there.
-pub(crate) const IDENTITY: u8 = 5;
+pub const IDENTITY: u8 = 5;
 
 // A byte that is no letter.
 const OUTSIDE: u8 = 6;
@@ -37,7 +37,7 @@ const PAIRS: usize = 576;
 
 const LETTERS: usize = 648;
 
-pub(crate) fn number(table: &[u8], b: u8) -> u8
+pub fn number(table: &[u8], b: u8) -> u8
     requires { Right table.now }
     ensures { result ≡ number_of b }
 {
@@ -101,6 +101,18 @@ impl Tail {
     {
         let entry = table[SYLLABLES + syllable as usize * 24 + self.code];
         self.moved(entry, 0)
+    }
+
+    // The letters of it as it is written, one I where it is empty.
+    pub(crate) fn size(self, table: &[u8]) -> usize
+        requires table_right { Right table.now }
+        requires tail_fits { Fits self }
+        ensures { SizeIs (tail_of self) result }
+    {
+        let split = self.split(table);
+        let rest = split.rest;
+        let n = self.code / 8 + rest.b as usize + rest.c as usize + rest.d as usize;
+        if n == 0 { 1 } else { n }
     }
 
     // Its axis, and the Clifford behind it.

@@ -13,15 +13,15 @@ use Rattle.clifford.specs.declared.Axis.TheVariants as Axis
 use Rattle.clifford.specs.Meaning.{Ranged, axis_number}
 use Rattle.clifford.specs.Cliffords.{split_c, split_right}
 use Rattle.clifford.specs.Tables.{quadruple}
+use Rattle.reading.specs.declared.Text.{Text}
 use Rattle.reading.specs.declared.Reading.{Reading}
-use Rattle.reading.specs.declared.Stack.{Stack}
 use Rattle.reading.specs.declared.steps.Tail.{Tail}
 use Rattle.reading.specs.Readings.{State, state, start, run, run_ranged, start_ranged, shape_of, prefix, tail_size, letters_in, tail_size_lem, text_size_lem}
 use Rattle.reading.specs.Syllables.{syllable_number, named}
 use Rattle.reading.specs.Steps.{tail_of, Fits}
 use Rattle.reading.specs.Held as Held
-use Rattle.reading.specs.Held.{Stacks, longer, count_is, letters_few}
-use Rattle.reading.specs.Texts.{whole_of, Few, Holds, whole_holds}
+use Rattle.reading.specs.Held.{Holds, longer, count_is, bytes_few}
+use Rattle.reading.specs.Texts.{whole_of, Few, HoldsText, whole_holds}
 use Rattle.slot.specs.declared.told.Told.{Told}
 use Rattle.slot.specs.declared.told.Told.TheVariants as Told
 use Rattle.slot.specs.Meaning.{Slot, slot_of, code, codes_of, led, codes, Shows, Given}
@@ -193,13 +193,13 @@ fronted items (suc (suc n)) l h =
     }
 
 -- ---- a reading that stands in a record
-pub record Standing (r : Slot) (x : Reading) : Type 0 where
+pub record Standing (r : Slot) (x : Text) : Type 0 where
   pub st : State
   pub ranged : Ranged st.q
   pub shows : Shows (shape_of st) r
-  pub holds : Holds r.syllables x st
+  pub holds : HoldsText r.syllables x st
 
-pub standing_given : {r : Slot} {x : Reading} → Standing r x → Given r
+pub standing_given : {r : Slot} {x : Text} → Standing r x → Given r
 standing_given h = record { letters = spell (shape_of h.st); by = text_gives h.st h.ranged h.shows }
 
 abbrev pub Tells : Slot → Told → Type 0
@@ -226,8 +226,8 @@ six_listed rest e =
 abbrev pub tail_in : List ℕ → Tail
 tail_in rest = record { code = get_or rest 2 0 * 8 + get_or rest 3 0 * 4 + get_or rest 4 0; phase = get_or rest 5 0 }
 
-abbrev pub stack_in : List ℕ → ℕ → Stack
-stack_in rest letters = record { count = get_or rest 0 0; letters = letters; tail = tail_in rest }
+abbrev pub stack_in : List ℕ → ℕ → Reading
+stack_in rest letters = record { count = get_or rest 0 0; bytes = letters; tail = tail_in rest }
 
 module _ {rest : List ℕ} (h : Ranges rest) where
   pub a_fits : FitsIn w64 (get_or rest 2 0 * 8)
@@ -299,7 +299,7 @@ module _ {items rest : List ℕ} where
       letters_are : letters ≡ length (prefix syllables.lead syllables.stack)
       letters_are = sum_is_lem ∙ ap sum syllables.is ∙ codes_sum syllables.lead syllables.stack
 
-      stacks_there : Stacks items (stack_in rest letters) standing_state
+      stacks_there : Holds items (stack_in rest letters) standing_state
       stacks_there =
           record {
             array =
@@ -309,7 +309,7 @@ module _ {items rest : List ℕ} where
                   front = syllables.is;
                   empty = λ i l. none_at i l (ltb i (length items)) refl;
                 };
-            letters_is = letters_are;
+            bytes_is = letters_are;
             tail_is = tail_in_lem rest ranges;
             fits = tail_fits ranges;
           }
@@ -319,10 +319,10 @@ module _ {items rest : List ℕ} where
           none_at i l false g = get_or-eq_default items 0 (ltb-false i (length items) g)
 
       pub stack_few : Few (stack_in rest letters)
-      stack_few = record { fits = tail_fits ranges; few = omega (arith, letters_few stacks_there, ranges.count_few) }
+      stack_few = record { fits = tail_fits ranges; few = omega (arith, bytes_few stacks_there, ranges.count_few) }
 
-      module _ {x : Reading} (whole : x ≡ whole_of (stack_in rest letters)) where
-        holds_there : Holds items x standing_state
+      module _ {x : Text} (whole : x ≡ whole_of (stack_in rest letters)) where
+        holds_there : HoldsText items x standing_state
         holds_there = whole_holds stacks_there whole
 
         pub stands : length rest ≡ 6 → x.bytes ≡ get_or rest 1 0 → Tells (slot_of items rest) (Told.Right x)
@@ -344,7 +344,7 @@ module _ {items rest : List ℕ} where
         pub wrong_bytes : (x.bytes ≡ get_or rest 1 0 → ⊥) → Tells (slot_of items rest) Told.Wrong
         wrong_bytes n g =
             n
-            (ap (λ (y : Reading). y.bytes) whole
+            (ap (λ (y : Text). y.bytes) whole
             ∙ ap₂ (λ (m : ℕ) (q : Clifford). m + tail_size q) sum_is_lem (tail_in_lem rest ranges)
             ∙ sym (given_sound g).bytes_is)
 

@@ -12,13 +12,13 @@ use Rattle.clifford.specs.declared.Clifford.{Clifford}
 use Rattle.clifford.specs.Meaning.{Ranged}
 use Rattle.reading.specs.declared.Added.{Added}
 use Rattle.reading.specs.declared.Added.TheVariants as Added
-use Rattle.reading.specs.declared.Reading.{Reading}
+use Rattle.reading.specs.declared.Text.{Text}
 use Rattle.reading.specs.Readings.{State, read, read_ranged, shape_of, size_of, text_size, fits}
 use Rattle.reading.specs.Steps.{tail_of, letter_at, number_of}
 use Rattle.reading.specs.Held as Held
 use Rattle.reading.specs.Held.{count_is}
 use Rattle.reading.specs.Letters.{numbered_in, numbered_at, numbered_out}
-use Rattle.reading.specs.Texts.{Holds, Readable, AddsLetter}
+use Rattle.reading.specs.Texts.{HoldsText, ReadableText, AddsLetter}
 use Rattle.slot.specs.declared.Answer.{Answer}
 use Rattle.slot.specs.declared.told.Told.{Told}
 use Rattle.slot.specs.declared.told.Told.TheVariants as Told
@@ -31,7 +31,7 @@ use Rattle.slot.specs.Standing.{Standing, standing_given, Tells}
 own_normal : (st : State) → Ranged st.q → Normal (spell (shape_of st))
 own_normal st ranged = record { shape = shape_of st; fits = fits st.q ranged; spelled = refl }
 
-pub standing_readable : {items rest : List ℕ} {x : Reading} → Standing (slot_of items rest) x → Readable items x
+pub standing_readable : {items rest : List ℕ} {x : Text} → Standing (slot_of items rest) x → ReadableText items x
 standing_readable h = record { st = h.st; holds = h.holds }
 
 pub number_few : {n : ℕ} → n ≤ 5 → n < 6
@@ -41,7 +41,7 @@ number_few l = omega arith
 pub length_wrong : {r : Slot} {t : Told} {a : Answer} → Tells r t → t ≡ Told.Wrong → a ≡ refused Limits.slot_refusal → LengthOutcome r a
 length_wrong {r} n w e = Rung.given 0 (subst (Tells r) w n, refl) e
 
-pub length_told : {r : Slot} {t : Told} {x : Reading} → Tells r t → t ≡ Told.Right x
+pub length_told : {r : Slot} {t : Told} {x : Text} → Tells r t → t ≡ Told.Right x
     → LengthOutcome r (record { refusal = no_refusal; length = x.bytes })
 length_told {r} {t} {x} n w =
     let h : Standing r x = subst (Tells r) w n in
@@ -61,19 +61,19 @@ MoreOutcome number r =
     Outcome (λ n p. left (refused n) r) (Extended (byte (letter_at number)) r) (full (byte (letter_at number)) r then none)
 
 -- a reading's numbers
-abbrev pub six : Reading → List ℕ
+abbrev pub six : Text → List ℕ
 six x =
-    x.stack.count ∷ x.bytes ∷ x.stack.tail.code / 8 ∷ x.stack.tail.code / 4 % 2 ∷ x.stack.tail.code % 4 ∷ x.stack.tail.phase ∷ []
+    x.reading.count ∷ x.bytes ∷ x.reading.tail.code / 8 ∷ x.reading.tail.code / 4 % 2 ∷ x.reading.tail.code % 4 ∷ x.reading.tail.phase ∷ []
 
-six_is : {items : List ℕ} {x : Reading} {st : State} → Holds items x st → six x ≡ rest_of st
+six_is : {items : List ℕ} {x : Text} {st : State} → HoldsText items x st → six x ≡ rest_of st
 six_is {items} {x} {st} h =
-    ap₂ (λ (n m : ℕ). n ∷ m ∷ q.a ∷ q.b ∷ q.c ∷ q.d ∷ []) (count_is h.stacks) h.bytes_is
-    ∙ ap (λ (p : Clifford). size_of st ∷ text_size st ∷ p.a ∷ p.b ∷ p.c ∷ p.d ∷ []) h.stacks.tail_is
+    ap₂ (λ (n m : ℕ). n ∷ m ∷ q.a ∷ q.b ∷ q.c ∷ q.d ∷ []) (count_is h.holds) h.bytes_is
+    ∙ ap (λ (p : Clifford). size_of st ∷ text_size st ∷ p.a ∷ p.b ∷ p.c ∷ p.d ∷ []) h.holds.tail_is
   where
     q : Clifford
-    q = tail_of x.stack.tail
+    q = tail_of x.reading.tail
 
-module _ (number : ℕ) {items rest : List ℕ} {x : Reading} (h : Standing (slot_of items rest) x) (e : length items ≡ 4096) where
+module _ (number : ℕ) {items rest : List ℕ} {x : Text} (h : Standing (slot_of items rest) x) (e : length items ≡ 4096) where
   abbrev l : Letter
   l = letter_at number
 
@@ -103,18 +103,18 @@ module _ (number : ℕ) {items rest : List ℕ} {x : Reading} (h : Standing (slo
             more = omega (arith, state_size next, p.1 st h.holds);
           }
 
-  module _ (new : List ℕ) {t : Added} (p : AddsLetter (letter_at number) items x new t) {y : Reading} (w : t ≡ Added.Letter y)
+  module _ (new : List ℕ) {t : Added} (p : AddsLetter (letter_at number) items x new t) {y : Text} (w : t ≡ Added.Letter y)
       (g : length new ≡ length items) {six' : List ℕ} (s : six' ≡ six y) where
     steps : AddsLetter l items x new (Added.Letter y)
     steps = subst (AddsLetter l items x new) w p
 
-    held : Holds new y next
+    held : HoldsText new y next
     held = steps.step st h.holds
 
     shown : Shows (shape_of next) (slot_of new six')
     shown =
         state_shown next (read_ranged l st h.ranged) new six'
-        (subst (λ (n : ℕ). Held.Codes new n (Held.codes next.lead next.stack)) (count_is held.stacks) held.stacks.array)
+        (subst (λ (n : ℕ). Held.Codes new n (Held.codes next.lead next.stack)) (count_is held.holds) held.holds.array)
         (g ∙ e) (s ∙ six_is held)
 
     -- a letter that has its place needs no other
@@ -138,14 +138,14 @@ module _ (number : ℕ) {items rest : List ℕ} {x : Reading} (h : Standing (slo
         })
 
 -- ---- a letter more
-pub told_right : {r : Slot} {t : Told} {x : Reading} → Tells r t → t ≡ Told.Right x → Standing r x
+pub told_right : {r : Slot} {t : Told} {x : Text} → Tells r t → t ≡ Told.Right x → Standing r x
 told_right {r} n w = subst (Tells r) w n
 
 module _ (b : ℕ) {r : Slot} where
   pub add_wrong : {t : Told} {a : Answer} → Tells r t → t ≡ Told.Wrong → a ≡ refused Limits.slot_refusal → AddOutcome b r (left a r)
   add_wrong n w e = Rung.given 0 (subst (Tells r) w n, refl) (ap (λ (y : Answer). left y r) e)
 
-  module _ {t : Told} {x : Reading} (k : Tells r t) (w : t ≡ Told.Right x) {n : ℕ} (e : n ≡ number_of b) where
+  module _ {t : Told} {x : Text} (k : Tells r t) (w : t ≡ Told.Right x) {n : ℕ} (e : n ≡ number_of b) where
     pub add_outside : {a : Answer} → 5 < n → a ≡ refused Limits.letter_refusal → AddOutcome b r (left a r)
     add_outside l f =
         Rung.passed (λ p g. g.0 (standing_given (told_right k w)))

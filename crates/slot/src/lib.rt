@@ -1,5 +1,7 @@
 // Slots: a letter added to a lent record of syllables, tail and bytes, and the length of the record's text. The record is believed only once it is
 // told that letters give it.
+#![tactic(auto)]
+
 ghost use Rattle.std.specs.Prelude.{◌≡◌, ◌≤◌, length};
 ghost use Rattle.reading.specs.Steps.{Right};
 ghost use Rattle.slot.specs.Meaning.{slot_of, refused, left, LengthOutcome, AddOutcome};
@@ -7,13 +9,13 @@ ghost use Rattle.slot.specs.Standing.{Standing};
 ghost use Rattle.slot.specs.Ways.{MoreOutcome, six};
 
 use reading::steps::IDENTITY;
-use reading::{Added, Reading};
+use reading::{Added, Text};
 use told::Told;
 
 mod told;
 
 // The refusal or 0, and the bytes of the text.
-#[derive(Drop)]
+#[derive(Clone, Copy)]
 pub struct Answer {
     pub refusal: u8,
     pub length: u64,
@@ -29,14 +31,14 @@ fn refused(number: u8) -> Answer
 }
 
 // A reading's numbers as they are lent.
-fn put_rest(r: Reading, rest: &mut [u64; 6])
+fn put_rest(r: Text, rest: &mut [u64; 6])
     ensures { rest.new ≡ six r }
 {
-    let stack = r.stack;
-    let tail = stack.tail;
+    let reading = r.reading;
+    let tail = reading.tail;
     let code = tail.code as u64;
     *rest = [
-        stack.count as u64,
+        reading.count as u64,
         r.bytes as u64,
         code / 8,
         code / 4 % 2,
@@ -49,7 +51,7 @@ fn put_rest(r: Reading, rest: &mut [u64; 6])
 fn add_right(
     table: &[u8],
     number: u8,
-    r: Reading,
+    r: Text,
     syllables: &mut [u8],
     rest: &mut [u64; 6],
 ) -> Answer

@@ -9,12 +9,12 @@ ghost use Rattle.slot.specs.Standing.{stack_in, Tells};
 
 use exact::both;
 use reading::steps::Tail;
-use reading::{Reading, Stack};
+use reading::{Text, Reading};
 
 // What is read from a record that letters give.
-#[derive(Drop)]
+#[derive(Clone, Copy)]
 pub(crate) enum Told {
-    Right(Reading),
+    Right(Text),
     Wrong,
 }
 
@@ -86,20 +86,20 @@ fn behind(items: &[u8], count: usize) -> bool
 }
 
 // The reading of numbers in their ranges, its syllables having so many letters.
-fn reading_in(table: &[u8], letters: usize, rest: &[u64]) -> Reading
+fn reading_in(table: &[u8], letters: usize, rest: &[u64]) -> Text
     requires { (Right table.now) × ((length rest.now ≡ 6) × ((Ranges rest.now) × (Few (stack_in rest.now letters)))) }
     ensures { result ≡ whole_of (stack_in rest.now letters) }
 {
     let code = rest[2] * 8 + rest[3] * 4 + rest[4];
-    let stack = Stack {
+    let reading = Reading {
         count: rest[0] as usize,
-        letters: letters,
+        bytes: letters,
         tail: Tail {
             code: code as usize,
-            phase: rest[5] as u8,
+            phase: rest[5] as usize,
         },
     };
-    stack.whole(table)
+    reading.whole(table)
 }
 
 // The codes and the bytes of a record whose numbers are in their ranges.

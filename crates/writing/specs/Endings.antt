@@ -12,7 +12,7 @@ use Rattle.clifford.specs.declared.Coset.{Coset}
 use Rattle.writing.specs.declared.Ending.{Ending}
 use Rattle.clifford.specs.Meaning.{Ranged}
 use Rattle.clifford.specs.Cliffords.{split_c, split_right}
-use Rattle.reading.specs.Readings.{State, prefix, front_of, shape_to, spelled}
+use Rattle.reading.specs.Readings.{State, prefix, front_of, shape_to, spelled, times_length}
 
 abbrev pub esses_of : Axis → ℕ
 esses_of Axis.I = 0
@@ -145,10 +145,6 @@ pub record Ended (phase : Bool) (q : Clifford) (r : Ending) : Type 0 where
   pub few : end_size r ≤ 64
 
 -- ---- sizes
-pub times_length : (n : ℕ) (l : Letter) → length (times n l) ≡ n
-times_length zero l = refl
-times_length (suc n) l = ap suc (times_length n l)
-
 pub end_length : (e : Ending) → length (end_word e) ≡ end_size e
 end_length e = simp (length-append, times_length) (omega arith)
 

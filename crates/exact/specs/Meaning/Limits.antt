@@ -62,3 +62,9 @@ statement_refusal = 9
 
 abbrev pub phase_refusal : ℕ
 phase_refusal = 10
+
+abbrev pub slot_refusal : ℕ
+slot_refusal = 17
+
+abbrev pub full_refusal : ℕ
+full_refusal = 18
