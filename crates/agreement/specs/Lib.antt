@@ -13,3 +13,4 @@ pub mod Tees
 pub mod Phase
 pub mod Cheapest
 pub mod Enough
+pub mod Slots

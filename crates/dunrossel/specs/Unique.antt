@@ -24,9 +24,11 @@ use Rattle.synthesis_of_clifford_t.specs.Unique.{synthesise_unique}
 use Rattle.circuit.specs.Meaning.{Edition}
 use Rattle.qasm.specs.Meaning.{WriteOutcome, ReadOutcome}
 use Rattle.qasm.specs.Unique.{write_unique, read_unique}
+use Rattle.slot.specs.Meaning.{slot_of}
+use Rattle.slot.specs.Unique.{add_unique, length_unique}
 use Rattle.view.specs.Unique.{view_unique}
 use Rattle.rotation.specs.Unique.{count_unique, rotation_unique}
-use Rattle.dunrossel.specs.Meaning.Exports.{Reduces, Multiplies, Views, Counts, Rotates, Writes, Synthesises, Converts}
+use Rattle.dunrossel.specs.Meaning.Exports.{Reduces, Multiplies, Views, Counts, Rotates, Writes, Synthesises, Converts, Extends, Measures}
 use Rattle.dunrossel.specs.Meaning.Exports.{argument, Multiplied, Inverted, Parted}
 use Rattle.handed.specs.Meaning.{z_of, w_of}
 
@@ -58,6 +60,12 @@ circuit_unique e w old = one_handed _ _ (λ r s. write_unique old r s e w)
 
 pub letters_unique : (t old : List ℕ) → Only (Converts (ReadOutcome t old))
 letters_unique t old = one_handed _ _ (λ r s. read_unique old r s t)
+
+pub extends_unique : (letter : ℕ) (syllables rest : List ℕ) → Only (Extends letter syllables rest)
+extends_unique letter syllables rest = one_handed _ _ (add_unique letter (slot_of syllables rest))
+
+pub measures_unique : (syllables rest : List ℕ) → Only (Measures syllables rest)
+measures_unique syllables rest = one_handed _ _ (length_unique (slot_of syllables rest))
 
 pub multiplied_unique : (x y : List ℤ) → Only (Multiplied x y)
 multiplied_unique x y = one_handed _ _ (Product-unique (argument x) (argument y))

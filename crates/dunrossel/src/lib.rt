@@ -5,7 +5,7 @@ ghost use Rattle.std.specs.Prelude.{◌≤◌, length};
 ghost use Rattle.exact.specs.Meaning.Limits.{enough};
 ghost use Rattle.exact.specs.Meaning.Lent.{lent};
 ghost use Rattle.dunrossel.specs.Meaning.Exports.{Reduces, Multiplies, Views, Counts, Rotates};
-ghost use Rattle.dunrossel.specs.Meaning.Exports.{Writes, Synthesises, Converts};
+ghost use Rattle.dunrossel.specs.Meaning.Exports.{Writes, Extends, Measures, Synthesises, Converts};
 ghost use Rattle.dunrossel.specs.Meaning.Exports.{Multiplied, Inverted, Parted};
 ghost use Rattle.dunrossel.specs.Meaning.Bench.{NumbersOutcome, BenchOutcome};
 ghost use Rattle.handed.specs.Meaning.{counts_of, steps_of};
@@ -56,6 +56,33 @@ pub extern "C" fn dunrossel_phase_free(word: &[u8], buf: &mut [u8], out: &mut [u
 {
     let answer = normal_form::phase_free(word, buf);
     handed::put_counts(answer, out);
+    answer.refusal
+}
+
+#[unsafe(no_mangle)]
+pub extern "C" fn dunrossel_slot_add(
+    letter: u8,
+    syllables: &mut [u8; 4096],
+    rest: &mut [u64; 6],
+    length: &mut u64,
+) -> u8
+    ensures { Extends letter syllables.old rest.old (result, (syllables.new, (rest.new, length.new))) }
+{
+    let answer = slot::add(letter, syllables, rest);
+    *length = answer.length;
+    answer.refusal
+}
+
+#[unsafe(no_mangle)]
+pub extern "C" fn dunrossel_slot_length(
+    syllables: &[u8; 4096],
+    rest: &[u64; 6],
+    length: &mut u64,
+) -> u8
+    ensures { Measures syllables.now rest.now (result, length.new) }
+{
+    let answer = slot::length(syllables, rest);
+    *length = answer.length;
     answer.refusal
 }
 

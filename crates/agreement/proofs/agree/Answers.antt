@@ -4,4 +4,4 @@ use borrow.Author.Rules.{rules}
 use Rattle.agreement.proofs.agree.Goals as goal
 
 pub alike-yes-requires : goal.alike-yes-requires
-alike-yes-requires c = record { fact_1 = search first_there; fact_2 = search second_there; }
+alike-yes-requires c = record { fact_1 = search first_there; fact_2 = search second_there }

@@ -13,6 +13,8 @@ use Rattle.clifford.specs.declared.Clifford.{Clifford}
 use Rattle.synthesis_of_clifford_t.specs.declared.Synthesis.{Synthesis}
 use Rattle.synthesis_of_clifford_t.specs.Meaning.{SynthesiseOutcome}
 use Rattle.qasm.specs.declared.Written.{Written as Converted}
+use Rattle.slot.specs.declared.Answer.{Answer as Measured}
+use Rattle.slot.specs.Meaning.{slot_of, Left, LengthOutcome, AddOutcome}
 use Rattle.view.specs.declared.Answer.{Answer}
 use Rattle.view.specs.Meaning.Outcome.{ViewOutcome}
 use Rattle.rotation.specs.declared.Answer.{Answer as Rotated}
@@ -58,6 +60,17 @@ Synthesises numbers k n zw old =
 abbrev pub Converts : (Converted → List ℕ → Type 0) → ℕ × (List ℕ × List ℕ) → Type 0
 Converts Job =
     HandsOn (λ (j : Lent Converted). Job j.handed j.buffer) (λ (j : Lent Converted). (j.handed.refusal, (counts_in j.handed, j.buffer)))
+
+-- ---- slots
+-- a letter added: the refusal; the record at the end, codes and numbers; the length
+abbrev pub Extends : ℕ → List ℕ → List ℕ → ℕ × (List ℕ × (List ℕ × ℕ)) → Type 0
+Extends letter syllables rest =
+    HandsOn (AddOutcome letter (slot_of syllables rest))
+    (λ (j : Left). (j.answer.refusal, (j.slot.syllables, (j.slot.rest, j.answer.length))))
+
+-- the length: the refusal, the length
+abbrev pub Measures : List ℕ → List ℕ → ℕ × ℕ → Type 0
+Measures syllables rest = HandsOn (LengthOutcome (slot_of syllables rest)) (λ (j : Measured). (j.refusal, j.length))
 
 -- ---- job 6: four numbers in, four out; the coset's five are the axis (0, 1 for H, 2 for SH) and the rest
 abbrev pub argument : List ℤ → Clifford

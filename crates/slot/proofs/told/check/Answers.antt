@@ -1,0 +1,10 @@
+-- `slot::told::check` meets its contract. Assumes nothing.
+use borrow.Author.Rules.{rules}
+use Rattle.slot.specs.Standing.{ranges_by, wrong_ranges}
+use Rattle.slot.proofs.told.check.Goals as goal
+
+pub check_codes-requires : goal.check_codes-requires
+check_codes-requires c = search ranges_by
+
+pub returns : goal.returns
+returns c = search wrong_ranges
