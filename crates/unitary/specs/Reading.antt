@@ -1,11 +1,11 @@
 -- Reading a word from its right end: what is known of the ending that has been read. Assumes nothing.
-use Rattle.std.specs.Prelude.{◌≡◌, refl, Bool, true, false, List, [], ◌∷◌, ℕ, zero, suc, ◌-◌, ◌≤◌, ◌<◌, eqb, length, drop, get_or}
+use Rattle.std.specs.Prelude.{◌≡◌, refl, Bool, true, false, List, [], ◌∷◌, ℕ, zero, suc, ◌-◌, ◌≤◌, ◌<◌, T, eqb, length, drop, get_or}
 use Rattle.std.proofs.Common.{sym, ◌∙◌, ap, subst, arith, eqb-true}
 use Rattle.std.proofs.lemmas.Bool.{eqb-false}
 use Rattle.exact.specs.Meaning.Matrix.{Same, Least}
 use Rattle.exact.specs.Meaning.Word.{Letter, word, bytes, Spelled}
 use Rattle.exact.specs.Meaning.Word as Word
-use Rattle.exact.specs.Meaning.Triple.{entries}
+use Rattle.exact.specs.Meaning.Triple.{Triple, entries}
 use Rattle.exact.specs.Meaning.Endings.{Shallow, DeepAt}
 use Rattle.exact.specs.Meaning.Limits as Limits
 use Rattle.exact.specs.Meaning.Limits.{longest, deepest}
@@ -15,7 +15,7 @@ use Rattle.exact.specs.Outcomes.Ladder.{Passed, pass}
 use Rattle.exact.specs.Outcomes.Places.{not_both}
 use Rattle.exact.specs.Cases.Letters.{letter_of, letters_of, bytes_inj, bytes_back, inside_passes}
 use Rattle.exact.specs.Matrices.Same.{Same-refl, Same-trans, Same-of, Same-mul}
-use Rattle.exact.specs.Matrices.Least.{least_same, test_reduced}
+use Rattle.exact.specs.Matrices.Least.{least_same, reduced_test, test_reduced}
 use Rattle.exact.specs.Matrices.Triples.{identity}
 use Rattle.unitary.specs.declared.DOmegaUnitary.{DOmegaUnitary}
 use Rattle.unitary.specs.declared.FromGates.{FromGates}
@@ -103,7 +103,7 @@ read_start bs t e =
     good : Good t
     good = record {
       unitary = rw e (record { squares_sum = refl; crosses_sum = refl });
-      reduced = test_reduced (triple t) (rw e tt);
+      reduced = test_reduced (triple t) (subst (λ (u : Triple). T (reduced_test u)) (sym e) tt);
       n_small = omega (arith, ap (λ u. u.n) e);
     }
 

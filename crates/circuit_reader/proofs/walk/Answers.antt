@@ -1,0 +1,10 @@
+-- `walk` meets its contract. Assumes nothing.
+use borrow.Author.Rules.{rules}
+use Rattle.circuit_reader.specs.Chosen.{heading_two, heading_three}
+use Rattle.circuit_reader.proofs.walk.Goals as goal
+
+pub walk_by-requires : goal.walk_by-requires
+walk_by-requires c = search heading_three
+
+pub walk_by-requires-2 : goal.walk_by-requires-2
+walk_by-requires-2 c = search heading_two

@@ -1,0 +1,7 @@
+-- `reading::steps::Tail::behind` meets its contract. Assumes nothing.
+use borrow.Author.Rules.{rules}
+use Rattle.reading.specs.Steps.{gained}
+use Rattle.reading.proofs.steps.Tail.behind.Goals as goal
+
+pub returns : goal.returns
+returns c = search gained

@@ -1,0 +1,7 @@
+-- `root_two::Vect::neg` meets its contract, part by part.
+use Rattle.exact.specs.Rotation.Vectors.{vect_path}
+use borrow.Author.Rules.{rules}
+use Rattle.root_two.proofs.Vect.neg.Goals as goal
+
+pub returns : goal.returns
+returns c = vect_path c.neg-x.ensures c.neg-y.ensures c.neg-z.ensures
