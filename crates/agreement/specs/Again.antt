@@ -4,7 +4,7 @@ use Rattle.std.specs.Prelude.{◌≡◌, List, ℕ, ◌≤◌, ℤ, length, take
 use Rattle.std.proofs.Common.{sym, ◌∙◌, ap, ap₂, subst, arith, length-take-le}
 use Rattle.exact.specs.Meaning.Word.{Letter, bytes}
 use Rattle.exact.specs.Meaning.Normal.{Normal, PhaseFree}
-use Rattle.exact.specs.Meaning.Limits.{longest, accepted}
+use Rattle.exact.specs.Meaning.Limits.{longest, no_refusal}
 use Rattle.exact.specs.Meaning.Lent as Lent
 use Rattle.exact.specs.Meaning.Lent.{lent, over}
 use Rattle.exact.specs.Outcomes.Lent.{handed_same}
@@ -43,7 +43,7 @@ module _ {p v : List Letter} (f : PhaseFree p v) (l : length p ≤ longest) (old
 
 -- ---- what job 4 wrote: never too long to be handed to job 3, which gives it back with the same counts
 module _ (k : ℤ) (n : ℕ) (z w : ZOmega) (old : List ℕ) (r : Synthesis) (new : List ℕ) (o : SynthesiseOutcome k n z w old r new)
-    (e : r.refusal ≡ accepted) where
+    (e : r.refusal ≡ no_refusal) where
   answer_of_lem : Lent.Writes Job4.text Job4.counts (SpellingOf (Job4.asked k n z w old)) old (lent r new)
   answer_of_lem = answer_there k n z w old r new o e
 
@@ -73,9 +73,9 @@ GivenBack Next r =
     → r' ≡ (r.0, (r.1.0, over (text_of r) old))
 
 pub exports_synthesised_again : (k : ℤ) (n : ℕ) (zw : List ℤ) (old : List ℕ) (r : Wrote) → Synthesises counts_of k n zw old r
-    → r.0 ≡ accepted
+    → r.0 ≡ no_refusal
     → GivenBack Normalises r
-exports_synthesised_again k n zw old r x = subst (λ (y : Wrote). y.0 ≡ accepted → GivenBack Normalises y) (sym x.is) of_job
+exports_synthesised_again k n zw old r x = subst (λ (y : Wrote). y.0 ≡ no_refusal → GivenBack Normalises y) (sym x.is) of_job
   where
     o : SynthesiseOutcome k n (z_of zw) (w_of zw) old x.job.handed x.job.buffer
     o = x.outcome
@@ -83,7 +83,7 @@ exports_synthesised_again k n zw old r x = subst (λ (y : Wrote). y.0 ≡ accept
     size : length (text_of (of_synthesised x.job)) ≡ x.job.handed.bytes
     size = length-take-le x.job.handed.bytes x.job.buffer (bytes_there k n (z_of zw) (w_of zw) old x.job.handed x.job.buffer o)
 
-    of_job : x.job.handed.refusal ≡ accepted → GivenBack Normalises (of_synthesised x.job)
+    of_job : x.job.handed.refusal ≡ no_refusal → GivenBack Normalises (of_synthesised x.job)
     of_job e old' l r' y =
         y.is
         ∙ ap of_normalised
@@ -92,10 +92,10 @@ exports_synthesised_again k n zw old r x = subst (λ (y : Wrote). y.0 ≡ accept
 
 -- what dunrossel_normalise or dunrossel_phase_free wrote may be too long for them
 abbrev pub Twice : (List Letter → List Letter → Type 0) → Wrote → Type 0
-Twice Next r = r.0 ≡ accepted → length (text_of r) ≤ longest → GivenBack Next r
+Twice Next r = r.0 ≡ no_refusal → length (text_of r) ≤ longest → GivenBack Next r
 
 module _ (Answer Next : List Letter → List Letter → Type 0)
-    (again : (w old : List ℕ) (r : Written) (new : List ℕ) → WordOutcome Answer w old r new → r.refusal ≡ accepted → r.bytes ≤ longest
+    (again : (w old : List ℕ) (r : Written) (new : List ℕ) → WordOutcome Answer w old r new → r.refusal ≡ no_refusal → r.bytes ≤ longest
     → LeftAgain Next r new)
     (w old : List ℕ) (r : Wrote) (x : Writes Answer w old r) where
   size : length (text_of (of_normalised x.job)) ≡ x.job.handed.bytes

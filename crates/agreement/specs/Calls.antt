@@ -3,7 +3,7 @@ use Rattle.std.specs.Prelude.{◌≡◌, List, [], ◌∷◌, ℕ, ℤ, length}
 use Rattle.std.proofs.Common.{sym, ◌∙◌, ap, subst}
 use Rattle.exact.specs.Meaning.Matrix.{Same}
 use Rattle.exact.specs.Meaning.Word.{Letter, word, tees, bytes}
-use Rattle.exact.specs.Meaning.Limits.{accepted}
+use Rattle.exact.specs.Meaning.Limits.{no_refusal}
 use Rattle.exact.specs.Meaning.Lent.{Lent}
 use Rattle.unitary.specs.declared.FromGates.{FromGates}
 use Rattle.normal_form.specs.declared.Written.{Written}
@@ -58,10 +58,10 @@ module _ {u : List Letter} (w : Within u) {old₁ old₂ : List ℕ} {first : Wr
 
 -- ---- two words with one matrix
 abbrev seen_of : List Letter → Wrote
-seen_of v = (accepted, (0 ∷ length v ∷ tees v ∷ [], bytes v))
+seen_of v = (no_refusal, (0 ∷ length v ∷ tees v ∷ [], bytes v))
 
 call_seen : (v : List Letter) (old : List ℕ) (r : Wrote) → r ≡ wrote v old → seen r ≡ seen_of v
-call_seen v old r e = ap seen e ∙ (λ i. (accepted, (0 ∷ length v ∷ tees v ∷ [], written v old i)))
+call_seen v old r e = ap seen e ∙ (λ i. (no_refusal, (0 ∷ length v ∷ tees v ∷ [], written v old i)))
 
 module _ {u u' : List Letter} (w : Within u) (w' : Within u') (s : Same (word u) (word u')) {old₁ old₂ old₁' old₂' : List ℕ}
     {first second first' second' : Wrote} {matrix matrix' : Made} where

@@ -8,7 +8,7 @@ use Rattle.exact.specs.Meaning.Word.{Letter, word, tees, bytes, Spelled}
 use Rattle.exact.specs.Meaning.Triple.{Triple, entries, Unitary}
 use Rattle.exact.specs.Meaning.Cheapest.{Cheapest}
 use Rattle.exact.specs.Meaning.Limits as Limits
-use Rattle.exact.specs.Meaning.Limits.{accepted}
+use Rattle.exact.specs.Meaning.Limits.{no_refusal}
 use Rattle.exact.specs.Meaning.Outcome.{Rung, none}
 use Rattle.exact.specs.Meaning.Lent as Lent
 use Rattle.exact.specs.Meaning.Lent.{Lent, lent}
@@ -51,10 +51,10 @@ LeftCheapest m r = SpelledCheapest m (text_of r) (tees_in r)
 
 -- ---- words
 module _ (u : List Letter) {old : List ℕ} {r : Wrote} where
-  pub exports_normalise_cheapest : Writes Normalises (bytes u) old r → r.0 ≡ accepted → LeftCheapest (word u) r
+  pub exports_normalise_cheapest : Writes Normalises (bytes u) old r → r.0 ≡ no_refusal → LeftCheapest (word u) r
   exports_normalise_cheapest x e = subst (LeftCheapest (word u)) (sym x.is) (normalise_cheapest u x.outcome (job_taken Normalises x e))
 
-  pub exports_phase_free_cheapest : Writes DropsPhase (bytes u) old r → r.0 ≡ accepted → Spelled (Cheapest ByOmega (word u)) (text_of r) (tees_in r)
+  pub exports_phase_free_cheapest : Writes DropsPhase (bytes u) old r → r.0 ≡ no_refusal → Spelled (Cheapest ByOmega (word u)) (text_of r) (tees_in r)
   exports_phase_free_cheapest x e =
       subst (λ (y : Wrote). Spelled (Cheapest ByOmega (word u)) (text_of y) (tees_in y)) (sym x.is)
       (phase_free_cheapest_5 u x.outcome (job_taken DropsPhase x e))
@@ -69,17 +69,17 @@ module _ (k : ℤ) (n : ℕ) (zw : List ℤ) where
     of_job : (numbers : Synthesis → List ℕ)
         → ((j : Lent Synthesis) → SpelledCheapest asked (seen j).1 j.handed.tees
         → LeftCheapest asked (j.handed.refusal, (numbers j.handed, j.buffer)))
-        → Synthesises numbers k n zw old r → r.0 ≡ accepted
+        → Synthesises numbers k n zw old r → r.0 ≡ no_refusal
         → LeftCheapest asked r
     of_job numbers left x e =
         subst (LeftCheapest asked) (sym x.is)
         (left x.job
         (synthesised_cheapest k n (z_of zw) (w_of zw) old x.job.handed x.job.buffer x.outcome (sym (ap (λ (y : Wrote). y.0) x.is) ∙ e)))
 
-    pub exports_synthesise_cheapest : Synthesises counts_of k n zw old r → r.0 ≡ accepted → LeftCheapest asked r
+    pub exports_synthesise_cheapest : Synthesises counts_of k n zw old r → r.0 ≡ no_refusal → LeftCheapest asked r
     exports_synthesise_cheapest = of_job counts_of (λ j h. h)
 
-    pub exports_steps_cheapest : Synthesises steps_of k n zw old r → r.0 ≡ accepted → LeftCheapest asked r
+    pub exports_steps_cheapest : Synthesises steps_of k n zw old r → r.0 ≡ no_refusal → LeftCheapest asked r
     exports_steps_cheapest = of_job steps_of (λ j h. h)
 
 -- ---- what the bench program prints: a refusal, or a word of the record's matrix
@@ -91,7 +91,7 @@ pub record Printed (x : Numbers) (old : List ℕ) (r : Lent ℕ) : Type 0 where
   pub parity : tees made.letters % 2 ≡ x.n % 2
 
 pub data Prints (s old : List ℕ) (r : Lent ℕ) : Type 0 where
-  no_word : (number : ℕ) → (number ≡ accepted → ⊥) → r ≡ Bench.refused old number 0 → Prints s old r
+  no_word : (number : ℕ) → (number ≡ no_refusal → ⊥) → r ≡ Bench.refused old number 0 → Prints s old r
   a_word : (x : Numbers) → RightRecord s x → Printed x old r → Prints s old r
 
 of_answer : (x : Numbers) {old : List ℕ} {r : Lent ℕ} → Lent.Writes word_text word_size (SpellingOf (Bench.asked x)) old r → Printed x old r
@@ -121,14 +121,14 @@ pub record SpelledWith (m : Matrix) (t : ℕ) : Type 0 where
   pub spelling : List Letter
   pub cheapest : Cheapest Same m spelling t
 
-module _ (k : ℤ) (n : ℕ) (z w : ZOmega) (c : Count) (o : CountOutcome k n z w c) (e : c.refusal ≡ accepted) where
+module _ (k : ℤ) (n : ℕ) (z w : ZOmega) (c : Count) (o : CountOutcome k n z w c) (e : c.refusal ≡ no_refusal) where
   abbrev triple : Triple
   triple = given k n z w
 
   unitary_there : Unitary triple
   unitary_there =
       (checks_taken k (quad z) (quad w)
-      (through refused_count (AnswersCount (entries triple)) (λ (j : Count). j.refusal ≡ accepted) (checks k (quad z) (quad w)) none
+      (through refused_count (AnswersCount (entries triple)) (λ (j : Count). j.refusal ≡ no_refusal) (checks k (quad z) (quad w)) none
       ((λ p h. omega arith), ((λ p h. omega arith), ((λ p h. omega arith), tt))) c e o).0).unitary_there n
 
   -- a word with the matrix has a normal word

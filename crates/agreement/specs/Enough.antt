@@ -3,7 +3,7 @@
 use Rattle.std.specs.Prelude.{◌≡◌, List, ℕ, ◌≤◌, length}
 use Rattle.std.proofs.Common.{sym, ◌∙◌, ap}
 use Rattle.exact.specs.Meaning.Word.{Letter, bytes}
-use Rattle.exact.specs.Meaning.Limits.{longest, normal_enough, phase_free_enough, accepted, room_refusal}
+use Rattle.exact.specs.Meaning.Limits.{longest, normal_enough, phase_free_enough, no_refusal, room_refusal}
 use Rattle.normal_form.specs.Meaning.{Normalises, DropsPhase}
 use Rattle.normal_form.specs.Enough.{normalise_has_room, normalise_taken, phase_free_has_room, phase_free_taken}
 use Rattle.dunrossel.specs.Meaning.Exports.{Writes}
@@ -19,7 +19,7 @@ module _ (old : List ℕ) (r : Wrote) where
       normalise_has_room old x.job.handed x.job.buffer k w x.outcome (sym (refusal_is Normalises x) ∙ e)
 
   pub exports_normalise_taken : normal_enough ≤ length old → (u : List Letter) → length u ≤ longest → Writes Normalises (bytes u) old r
-      → r.0 ≡ accepted
+      → r.0 ≡ no_refusal
   exports_normalise_taken k u l x =
       refusal_is Normalises x ∙ normalise_taken old x.job.handed x.job.buffer k u l x.outcome
 
@@ -28,6 +28,6 @@ module _ (old : List ℕ) (r : Wrote) where
       phase_free_has_room old x.job.handed x.job.buffer k w x.outcome (sym (refusal_is DropsPhase x) ∙ e)
 
   pub exports_phase_free_taken : phase_free_enough ≤ length old → (u : List Letter) → length u ≤ longest → Writes DropsPhase (bytes u) old r
-      → r.0 ≡ accepted
+      → r.0 ≡ no_refusal
   exports_phase_free_taken k u l x =
       refusal_is DropsPhase x ∙ phase_free_taken old x.job.handed x.job.buffer k u l x.outcome

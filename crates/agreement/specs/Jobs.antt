@@ -6,7 +6,7 @@ use Rattle.exact.specs.Meaning.Word.{Letter, word, tees, bytes, Spelled}
 use Rattle.exact.specs.Meaning.Normal.{Normal, NormalOf}
 use Rattle.exact.specs.Meaning.Triple.{entries, Unitary}
 use Rattle.exact.specs.Meaning.Endings.{Shallow, DeepAt}
-use Rattle.exact.specs.Meaning.Limits.{longest, deepest, enough, accepted}
+use Rattle.exact.specs.Meaning.Limits.{longest, deepest, enough, no_refusal}
 use Rattle.exact.specs.Meaning.Outcome.{none, ◌then◌, ◌also◌}
 use Rattle.exact.specs.Meaning.Lent.{Lent, lent, over, untouched, Writes}
 use Rattle.exact.specs.Meaning.Refusals.{long, letter, deep, checks, TooMany, room}
@@ -78,7 +78,7 @@ module _ (u : List Letter) (w : Within u) where
       not_deep : (p : ℕ) → Spelled DeepAt (bytes u) p → ⊥
       not_deep p s = let d = of_bytes u s in not_both (w.shallow.at p (omega (arith, d.there))) d.deep
 
-  pub taken_2 : (r : FromGates) → MatrixOutcome (bytes u) r → r.refusal ≡ accepted
+  pub taken_2 : (r : FromGates) → MatrixOutcome (bytes u) r → r.refusal ≡ no_refusal
   taken_2 r h = (job_2 r h).taken
 
   -- ---- job 4
@@ -151,15 +151,15 @@ pub written : (v : List Letter) (old : List ℕ) → take (length v) (over (byte
 written v old = text_there (bytes v) old (length v) (sym (bytes_length v))
 
 abbrev seen_of : List Letter → Seen
-seen_of v = record { refusal = accepted; bytes = length v; tees = tees v; text = bytes v }
+seen_of v = record { refusal = no_refusal; bytes = length v; tees = tees v; text = bytes v }
 
 first_seen : (v : List Letter) (old : List ℕ) (j : Lent Written) → j ≡ lent (Job3.counts v) (over (bytes v) old) → seen_first j ≡ seen_of v
-first_seen v old j e = ap seen_first e ∙ (λ i. record { refusal = accepted; bytes = length v; tees = tees v; text = written v old i })
+first_seen v old j e = ap seen_first e ∙ (λ i. record { refusal = no_refusal; bytes = length v; tees = tees v; text = written v old i })
 
 second_seen : (v : List Letter) (taken : ℕ) (old : List ℕ) (j : Lent Synthesis)
     → j ≡ lent (Job4.counts (record { letters = v; steps = taken })) (over (bytes v) old)
     → seen_second j ≡ seen_of v
-second_seen v taken old j e = ap seen_second e ∙ (λ i. record { refusal = accepted; bytes = length v; tees = tees v; text = written v old i })
+second_seen v taken old j e = ap seen_second e ∙ (λ i. record { refusal = no_refusal; bytes = length v; tees = tees v; text = written v old i })
 
 module _ {u u' : List Letter} (w : Within u) (w' : Within u') (s : Same (word u) (word u')) {old₁ old₂ old₁' old₂' : List ℕ}
     {first first' : Lent Written} {matrix matrix' : FromGates} {second second' : Lent Synthesis} where

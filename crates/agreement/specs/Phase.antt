@@ -4,7 +4,7 @@ use Rattle.std.specs.Prelude.{◌≡◌, List, ℕ, ◌≤◌, get_or}
 use Rattle.std.proofs.Common.{sym, ◌∙◌, ap, ap₂, arith}
 use Rattle.exact.specs.Meaning.Matrix.{ByOmega}
 use Rattle.exact.specs.Meaning.Word.{Letter, word, bytes}
-use Rattle.exact.specs.Meaning.Limits.{accepted}
+use Rattle.exact.specs.Meaning.Limits.{no_refusal}
 use Rattle.normal_form.specs.declared.Written.{Written}
 use Rattle.normal_form.specs.Meaning.{Normalises, DropsPhase}
 use Rattle.normal_form.specs.Phase.{written_by_omega, by_omega_written, counts_beside}
@@ -14,12 +14,12 @@ use Rattle.agreement.specs.Meaning.Exports.{Wrote, seen}
 use Rattle.agreement.specs.Again.{text_of}
 
 -- the refusal of a call is its job's
-pub job_taken : (Answer : List Letter → List Letter → Type 0) {w old : List ℕ} {r : Wrote} (x : Writes Answer w old r) → r.0 ≡ accepted
-    → x.job.handed.refusal ≡ accepted
+pub job_taken : (Answer : List Letter → List Letter → Type 0) {w old : List ℕ} {r : Wrote} (x : Writes Answer w old r) → r.0 ≡ no_refusal
+    → x.job.handed.refusal ≡ no_refusal
 job_taken Answer x e = sym (ap (λ (y : Wrote). y.0) x.is) ∙ e
 
 module _ (u u' : List Letter) {old old' : List ℕ} {r r' : Wrote}
-    (x : Writes DropsPhase (bytes u) old r) (x' : Writes DropsPhase (bytes u') old' r') (e : r.0 ≡ accepted) (e' : r'.0 ≡ accepted) where
+    (x : Writes DropsPhase (bytes u) old r) (x' : Writes DropsPhase (bytes u') old' r') (e : r.0 ≡ no_refusal) (e' : r'.0 ≡ no_refusal) where
   pub exports_written_by_omega : text_of r ≡ text_of r' → ByOmega (word u) (word u')
   exports_written_by_omega s =
       written_by_omega u u' x.outcome x'.outcome (job_taken DropsPhase x e) (job_taken DropsPhase x' e')
@@ -42,7 +42,7 @@ abbrev pub tees_in : Wrote → ℕ
 tees_in r = get_or r.1.0 2 0
 
 pub exports_beside : (u : List Letter) {old old' : List ℕ} {r r' : Wrote}
-    → Writes Normalises (bytes u) old r → Writes DropsPhase (bytes u) old' r' → r.0 ≡ accepted → r'.0 ≡ accepted
+    → Writes Normalises (bytes u) old r → Writes DropsPhase (bytes u) old' r' → r.0 ≡ no_refusal → r'.0 ≡ no_refusal
     → (tees_in r' ≡ tees_in r) × (bytes_in r' ≤ bytes_in r)
 exports_beside u x x' e e' =
     let b = counts_beside u x.outcome x'.outcome (job_taken Normalises x e) (job_taken DropsPhase x' e') in

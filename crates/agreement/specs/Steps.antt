@@ -4,7 +4,7 @@ use Rattle.std.specs.Prelude.{◌≡◌, List, ℕ, ◌*◌, ◌≤◌, ℤ, tak
 use Rattle.std.proofs.Common.{sym, ◌∙◌, ap, arith}
 use Rattle.exact.specs.Meaning.Matrix.{Same}
 use Rattle.exact.specs.Meaning.Triple.{Triple, entries}
-use Rattle.exact.specs.Meaning.Limits.{accepted}
+use Rattle.exact.specs.Meaning.Limits.{no_refusal}
 use Rattle.exact.specs.Meaning.Lent.{Lent}
 use Rattle.unitary.specs.Meaning.{given, Answers}
 use Rattle.synthesis_of_clifford_t.specs.declared.Synthesis.{Synthesis}
@@ -40,7 +40,7 @@ module _ (k : ℤ) (n : ℕ) (zw : List ℤ) (old : List ℕ) (r : Wrote) (x : S
   steps_are : steps_in r ≡ job.handed.steps
   steps_are = ap steps_in x.is
 
-  pub refused_steps : (r.0 ≡ accepted → ⊥) → steps_in r ≡ 0
+  pub refused_steps : (r.0 ≡ no_refusal → ⊥) → steps_in r ≡ 0
   refused_steps f =
       steps_are ∙ steps_refused k n (z_of zw) (w_of zw) old job.handed job.buffer x.outcome (λ e. f (refusal_is ∙ e))
 
@@ -54,7 +54,7 @@ module _ (k : ℤ) (n : ℕ) (zw : List ℤ) (old : List ℕ) (r : Wrote) (x : S
 module _ (k k' : ℤ) (n n' : ℕ) (zw zw' : List ℤ) (old old' : List ℕ) (r r' : Wrote) where
   pub exports_one_matrix : Same (entries (given k n (z_of zw) (w_of zw))) (entries (given k' n' (z_of zw') (w_of zw')))
       → Synthesises steps_of k n zw old r → Synthesises steps_of k' n' zw' old' r'
-      → r.0 ≡ accepted → r'.0 ≡ accepted
+      → r.0 ≡ no_refusal → r'.0 ≡ no_refusal
       → seen r ≡ seen r'
   exports_one_matrix s x x' e e' =
       ap seen x.is

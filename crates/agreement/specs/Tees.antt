@@ -3,7 +3,7 @@
 use Rattle.std.specs.Prelude.{◌≡◌, refl, List, ℕ, ◌≤◌, ℤ, pos, length, get_or}
 use Rattle.std.proofs.Common.{sym, ◌∙◌, ap, subst, arith}
 use Rattle.exact.specs.Meaning.Matrix.{Matrix}
-use Rattle.exact.specs.Meaning.Limits.{enough, accepted}
+use Rattle.exact.specs.Meaning.Limits.{enough, no_refusal}
 use Rattle.exact.specs.Meaning.Outcome.{none, ◌then◌, Rung, Outcome}
 use Rattle.exact.specs.Meaning.Lent.{Lent, untouched, Writes}
 use Rattle.exact.specs.Meaning.Refusals.{checks, room}
@@ -64,10 +64,10 @@ module _ (k : ℤ) (n : ℕ) (z w : ZOmega) (old : List ℕ) where
           ))
       behind j h (Rung.passed f y) = written_counts j y
 
-  pub accepted_counts : (j : Lent Synthesis) → Job4 j → j.handed.refusal ≡ accepted → CountOutcome k n z w (count_of j)
+  pub accepted_counts : (j : Lent Synthesis) → Job4 j → j.handed.refusal ≡ no_refusal → CountOutcome k n z w (count_of j)
   accepted_counts j o e =
       let s =
-      through (untouched refused old) (Writes text counts (SpellingOf matrix) old) (λ (i : Lent Synthesis). i.handed.refusal ≡ accepted)
+      through (untouched refused old) (Writes text counts (SpellingOf matrix) old) (λ (i : Lent Synthesis). i.handed.refusal ≡ no_refusal)
       (checks k (quad z) (quad w)) (room text (SpellingOf matrix) old then none)
       ((λ p h. omega arith), ((λ p h. omega arith), ((λ p h. omega arith), tt))) j e o in
       pass refused_count (AnswersCount matrix) (checks k (quad z) (quad w)) none s.0 (count_of j) (behind s.1)
@@ -81,7 +81,7 @@ module _ (k : ℤ) (n : ℕ) (z w : ZOmega) (old : List ℕ) where
   pub t_count_is_job_4's : enough ≤ length old → (j : Lent Synthesis) (c : Count) → Job4 j → CountOutcome k n z w c → count_of j ≡ c
   t_count_is_job_4's l j c o x = count_unique k n z w (count_of j) c (synthesised_counts l j o) x
 
-  pub t_count_is_accepted's : (j : Lent Synthesis) (c : Count) → Job4 j → j.handed.refusal ≡ accepted → CountOutcome k n z w c → count_of j ≡ c
+  pub t_count_is_accepted's : (j : Lent Synthesis) (c : Count) → Job4 j → j.handed.refusal ≡ no_refusal → CountOutcome k n z w c → count_of j ≡ c
   t_count_is_accepted's j c o e x = count_unique k n z w (count_of j) c (accepted_counts j o e) x
 
 -- ---- over the exports

@@ -4,7 +4,7 @@ use Rattle.std.proofs.Common.{sym, ◌∙◌, subst, arith, Fits, to_z}
 use Rattle.std.proofs.Math.Facts.{to_z_pos}
 use Rattle.std.specs.Int.{w8, w64}
 use Rattle.exact.specs.Meaning.Outcome.{Rung, Decides}
-use Rattle.exact.specs.Meaning.Limits.{accepted}
+use Rattle.exact.specs.Meaning.Limits.{no_refusal}
 use Rattle.exact.specs.Meaning.Lent.{lent}
 use Rattle.exact.specs.Whole.Parity.{false_true}
 use Rattle.unitary.specs.declared.FromGates.{FromGates}
@@ -16,10 +16,10 @@ use Rattle.agreement.specs.Meaning.Agree.{Second, Alike}
 
 -- ---- the second way
 module _ (m : FromGates) (old : List ℕ) where
-  pub stopped_before : (m.refusal ≡ accepted → ⊥) → Second m old (record { refusal = m.refusal; place = m.place; bytes = 0; tees = 0 }) old
+  pub stopped_before : (m.refusal ≡ no_refusal → ⊥) → Second m old (record { refusal = m.refusal; place = m.place; bytes = 0; tees = 0 }) old
   stopped_before f = Rung.given m.place (f, refl) refl
 
-  pub went_on : m.refusal ≡ accepted → Fits w8 m.matrix.k → (j : Synthesis) (new : List ℕ)
+  pub went_on : m.refusal ≡ no_refusal → Fits w8 m.matrix.k → (j : Synthesis) (new : List ℕ)
       → SynthesiseOutcome (to_z w64 m.matrix.k) m.matrix.n m.matrix.z m.matrix.w old j new
       → Second m old (record { refusal = j.refusal; place = 0; bytes = j.bytes; tees = j.tees }) new
   went_on e f j new o = Rung.passed (λ p h. h.0 e) (record { job = lent j new; outcome = of_k; is = refl })
@@ -29,13 +29,13 @@ module _ (m : FromGates) (old : List ℕ) where
 
 -- ---- alike or not
 module _ (a : Written) (x : List ℕ) (b : Written) (y : List ℕ) where
-  pub first_refused : (a.refusal ≡ accepted → ⊥) → Decides (Alike a x b y) false
+  pub first_refused : (a.refusal ≡ no_refusal → ⊥) → Decides (Alike a x b y) false
   first_refused f = refutes (λ h. f h.first_taken)
 
-  pub second_refused : (b.refusal ≡ accepted → ⊥) → Decides (Alike a x b y) false
+  pub second_refused : (b.refusal ≡ no_refusal → ⊥) → Decides (Alike a x b y) false
   second_refused f = refutes (λ h. f h.second_taken)
 
-  pub bytes_decide : a.refusal ≡ accepted → b.refusal ≡ accepted → (r : Bool)
+  pub bytes_decide : a.refusal ≡ no_refusal → b.refusal ≡ no_refusal → (r : Bool)
       → (r ≡ true → take a.bytes x ≡ take b.bytes y) × (take a.bytes x ≡ take b.bytes y → r ≡ true) → Decides (Alike a x b y) r
   bytes_decide e f r s =
       record {

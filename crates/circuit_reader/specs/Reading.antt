@@ -89,7 +89,7 @@ pub record Headed (s : List ℕ) (start : ℕ) (phase : Bool) : Type 0 where
 -- each case by its refusal and place
 abbrev pub refusal_of : Walked → ℕ × ℕ
 refusal_of (Walked.Stopped p) = (Limits.statement_refusal, p)
-refusal_of (Walked.Circuit start n) = (Limits.accepted, 0)
+refusal_of (Walked.Circuit start n) = (Limits.no_refusal, 0)
 
 abbrev pub CircuitIs : List ℕ → Walked → Type 0
 CircuitIs s (Walked.Stopped p) = ⊥

@@ -43,7 +43,7 @@ past_phase p i b = cond (ltb p i) p (cond (eqb b 87) i (i + 1))
 -- each case by its refusal and place
 abbrev pub refusal_of : Measured.Measured → ℕ × ℕ
 refusal_of (Outside p) = (Limits.letter_refusal, p)
-refusal_of (Word n p) = (Limits.accepted, 0)
+refusal_of (Word n p) = (Limits.no_refusal, 0)
 
 abbrev pub WordIs : List ℕ → Measured.Measured → Type 0
 WordIs w (Outside p) = ⊥

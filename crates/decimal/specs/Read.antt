@@ -21,15 +21,15 @@ pub record Taken (w b most v : ℕ) : Type 0 where
 
 -- ---- each case by its refusal; a record has no place
 abbrev pub step_refusal : Step → ℕ × ℕ
-step_refusal (More v) = (Limits.accepted, 0)
+step_refusal (More v) = (Limits.no_refusal, 0)
 step_refusal Stop = (Limits.record_refusal, 0)
 
 abbrev pub natural_refusal : Natural → ℕ × ℕ
-natural_refusal (Is v next) = (Limits.accepted, 0)
+natural_refusal (Is v next) = (Limits.no_refusal, 0)
 natural_refusal No = (Limits.record_refusal, 0)
 
 abbrev pub whole_refusal : Whole → ℕ × ℕ
-whole_refusal (IsWhole z next) = (Limits.accepted, 0)
+whole_refusal (IsWhole z next) = (Limits.no_refusal, 0)
 whole_refusal NoWhole = (Limits.record_refusal, 0)
 
 -- 8, where C holds; where no text of a format stands

@@ -5,7 +5,7 @@ use Rattle.std.proofs.Common.{sym, ◌∙◌, ap, subst, arith, length-append, l
 use Rattle.std.specs.Int.Signed.{mag}
 use Rattle.std.specs.Int.{w64}
 use Rattle.exact.specs.Meaning.Word.{tees, bytes}
-use Rattle.exact.specs.Meaning.Limits.{enough, accepted}
+use Rattle.exact.specs.Meaning.Limits.{enough, no_refusal}
 use Rattle.exact.specs.Meaning.Outcome.{Rung, Outcome, none, ◌then◌}
 use Rattle.exact.specs.Meaning.Lent.{Lent, lent, over, untouched, Writes}
 use Rattle.exact.specs.Meaning.Refusals.{checks, TooMany, room, malformed}
@@ -96,7 +96,7 @@ module _ (x : Numbers) (old : List ℕ) (enough-there : enough ≤ length old) (
   behind j h o = record {
     v = y.v;
     answer = y.answer;
-    is = ap print y.is ∙ ap (λ w. printed out (answer_text accepted w (tees y.v.letters) y.v.steps)) word_there;
+    is = ap print y.is ∙ ap (λ w. printed out (answer_text no_refusal w (tees y.v.letters) y.v.steps)) word_there;
   }
     where
       y : Writes Job4.text Job4.counts (SpellingOf (asked x)) old j

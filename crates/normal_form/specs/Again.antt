@@ -4,7 +4,7 @@ use Rattle.std.specs.Prelude.{◌≡◌, List, ℕ, ◌≤◌, length, take}
 use Rattle.std.proofs.Common.{sym, ◌∙◌, ap, ap₂, subst, arith}
 use Rattle.exact.specs.Meaning.Word.{Letter, word, bytes, Spelled}
 use Rattle.exact.specs.Meaning.Normal.{Normal, PhaseFree}
-use Rattle.exact.specs.Meaning.Limits.{longest, accepted}
+use Rattle.exact.specs.Meaning.Limits.{longest, no_refusal}
 use Rattle.exact.specs.Meaning.Lent.{Lent, lent, over, untouched, Writes}
 use Rattle.exact.specs.Matrices.Same.{Same-refl}
 use Rattle.exact.specs.Unique.PhaseFree.{phase_free_normal, phase_free_own}
@@ -40,10 +40,10 @@ module _ {p v : List Letter} (f : PhaseFree p v) (l : length p ≤ longest) wher
 
 -- ---- through the outcomes: what an accepted call wrote
 module _ (Answer : List Letter → List Letter → Type 0) {w old : List ℕ} {r : Written} {new : List ℕ} (o : WordOutcome Answer w old r new)
-    (e : r.refusal ≡ accepted) where
+    (e : r.refusal ≡ no_refusal) where
   pub answer_of_lem : Writes bytes counts (Spelled Answer w) old (lent r new)
   answer_of_lem =
-      accepted (untouched refused old) (Writes bytes counts (Spelled Answer w) old) (λ (x : Lent Written). x.handed.refusal ≡ accepted)
+      accepted (untouched refused old) (Writes bytes counts (Spelled Answer w) old) (λ (x : Lent Written). x.handed.refusal ≡ no_refusal)
       (word_refusals Answer w old) ((λ p h. omega arith), ((λ p h. omega arith), ((λ p h. omega arith), tt))) (lent r new) e o
 
   pub counted : r ≡ counts answer_of_lem.v
@@ -64,7 +64,7 @@ LeftAgain Next r new =
     → lent r' new' ≡ lent r (over (take r.bytes new) old')
 
 module _ (Answer Next : List Letter → List Letter → Type 0) (again : (u v : List Letter) → Answer u v → length v ≤ longest → ComesOut Next v v)
-    {w old : List ℕ} {r : Written} {new : List ℕ} (o : WordOutcome Answer w old r new) (e : r.refusal ≡ accepted) (l : r.bytes ≤ longest) where
+    {w old : List ℕ} {r : Written} {new : List ℕ} (o : WordOutcome Answer w old r new) (e : r.refusal ≡ no_refusal) (l : r.bytes ≤ longest) where
   left_again : LeftAgain Next r new
   left_again old' k r' new' o' =
       again (answer_of_lem Answer o e).answer.letters (answer_of_lem Answer o e).v (answer_of_lem Answer o e).answer.holds (few_written Answer o e l) old'
@@ -73,11 +73,11 @@ module _ (Answer Next : List Letter → List Letter → Type 0) (again : (u v : 
       ∙ ap₂ (λ (x : Written) (t : List ℕ). lent x (over t old')) (sym (counted Answer o e)) (sym (bytes_written Answer o e))
 
 module _ {w old : List ℕ} {r : Written} {new : List ℕ} where
-  pub normalise_twice : NormaliseOutcome w old r new → r.refusal ≡ accepted → r.bytes ≤ longest → LeftAgain Normalises r new
+  pub normalise_twice : NormaliseOutcome w old r new → r.refusal ≡ no_refusal → r.bytes ≤ longest → LeftAgain Normalises r new
   normalise_twice = left_again Normalises Normalises (λ u v a. normal_again a.normal)
 
-  pub phase_free_normalised : PhaseFreeOutcome w old r new → r.refusal ≡ accepted → r.bytes ≤ longest → LeftAgain Normalises r new
+  pub phase_free_normalised : PhaseFreeOutcome w old r new → r.refusal ≡ no_refusal → r.bytes ≤ longest → LeftAgain Normalises r new
   phase_free_normalised = left_again DropsPhase Normalises (λ u v a. phase_free_again a.phase_free)
 
-  pub phase_free_twice : PhaseFreeOutcome w old r new → r.refusal ≡ accepted → r.bytes ≤ longest → LeftAgain DropsPhase r new
+  pub phase_free_twice : PhaseFreeOutcome w old r new → r.refusal ≡ no_refusal → r.bytes ≤ longest → LeftAgain DropsPhase r new
   phase_free_twice = left_again DropsPhase DropsPhase (λ u v a. phase_free_again_5 a.phase_free)

@@ -5,7 +5,7 @@ use Rattle.std.specs.Int.{w64}
 use Rattle.std.proofs.Math.Seq.{take-length}
 use Rattle.exact.specs.Meaning.Word.{Letter, bytes, tees, Spelled}
 use Rattle.exact.specs.Meaning.Normal.{spell}
-use Rattle.exact.specs.Meaning.Limits.{accepted, letter_refusal, room_refusal}
+use Rattle.exact.specs.Meaning.Limits.{no_refusal, letter_refusal, room_refusal}
 use Rattle.exact.specs.Meaning.Lent.{over}
 use Rattle.exact.specs.Cases.Letters.{letters_of, bytes_length, Inside, bytes_back, inside_passes}
 use Rattle.exact.specs.Unique.Tails.{tees_append}
@@ -57,7 +57,7 @@ held_length {items} {r} h = bytes_length (codes_word (take r.count items)) ∙ a
 
 -- what is handed back for it, n being the length of the ending
 abbrev accepted : Reading → ℕ → Written
-accepted r n = record { refusal = accepted; place = 0; bytes = r.bytes + n; tees = r.count }
+accepted r n = record { refusal = no_refusal; place = 0; bytes = r.bytes + n; tees = r.count }
 
 -- e is the ending
 module _ (phase : Bool) (items : List ℕ) (r : Reading) (e : Ending) (n : ℕ) (k : Ended phase (tail_of r.tail) e) (f : n ≡ end_size e) where
@@ -81,7 +81,7 @@ module _ (phase : Bool) (items : List ℕ) (r : Reading) (e : Ending) (n : ℕ) 
 
     counts_is : accepted r n ≡ counts (text_of phase st)
     counts_is =
-        ap₂ (λ b t. record { refusal = accepted; place = 0; bytes = b; tees = t })
+        ap₂ (λ b t. record { refusal = no_refusal; place = 0; bytes = b; tees = t })
         (omega (arith, size_is, bytes_length (text_of phase st))) tees_is
 
   pub size_fits : Readable items r → r.count ≤ 4096 → Fits w64 (r.bytes + n)

@@ -13,6 +13,7 @@ here : (x : ℕ) (items : List ℕ) (b : Bool) → eqb x 0 ≡ b → T (cond b (
     → get_or (x ∷ items) i 0 ≡ 0
 here x items true e t f zero = eqb-true x 0 e
 here x items true e t f (suc i) = f t i
+here x items false e t f i = elim t [ ]
 
 empty_at : (items : List ℕ) → T (emptied items) → (i : ℕ) → get_or items i 0 ≡ 0
 empty_at [] t i = refl

@@ -3,7 +3,7 @@
 use Rattle.std.specs.Prelude.{◌≡◌, refl, List, ℕ, ◌<◌, ◌≤◌, length}
 use Rattle.std.proofs.Common.{sym, ◌∙◌, ap, arith}
 use Rattle.exact.specs.Meaning.Word.{Letter, bytes, Spelled}
-use Rattle.exact.specs.Meaning.Limits.{longest, normal_enough, phase_free_enough, accepted, long_refusal, letter_refusal, room_refusal}
+use Rattle.exact.specs.Meaning.Limits.{longest, normal_enough, phase_free_enough, no_refusal, long_refusal, letter_refusal, room_refusal}
 use Rattle.exact.specs.Meaning.Outcome.{Rung}
 use Rattle.exact.specs.Meaning.Lent.{lent, over, untouched, Writes}
 use Rattle.exact.specs.Meaning.Refusals.{TooMany}
@@ -42,7 +42,7 @@ module _ (Answer : List Letter → List Letter → Type 0) (n : ℕ) (few : (u v
         fits w (omega arith) h.0
     never_room w (Rung.passed s (Rung.passed i (Rung.passed m a))) g = other (counts a.v) (over (bytes a.v) old) a.is (λ f. omega arith) g
 
-    taken : (u : List Letter) → length u ≤ longest → WordOutcome Answer (bytes u) old r new → r.refusal ≡ accepted
+    taken : (u : List Letter) → length u ≤ longest → WordOutcome Answer (bytes u) old r new → r.refusal ≡ no_refusal
     taken u l o =
         let a =
         answered (untouched refused old) (Writes bytes counts (Spelled Answer (bytes u)) old) (word_refusals Answer (bytes u) old) (
@@ -57,14 +57,14 @@ module _ (old : List ℕ) (r : Written) (new : List ℕ) where
   normalise_has_room k = never_room Normalises normal_enough normal_enough_lem old k r new
 
   pub normalise_taken : normal_enough ≤ length old → (u : List Letter) → length u ≤ longest → NormaliseOutcome (bytes u) old r new
-      → r.refusal ≡ accepted
+      → r.refusal ≡ no_refusal
   normalise_taken k = taken Normalises normal_enough normal_enough_lem old k r new
 
   pub phase_free_has_room : phase_free_enough ≤ length old → (w : List ℕ) → PhaseFreeOutcome w old r new → r.refusal ≡ room_refusal → ⊥
   phase_free_has_room k = never_room DropsPhase phase_free_enough phase_free_enough_lem old k r new
 
   pub phase_free_taken : phase_free_enough ≤ length old → (u : List Letter) → length u ≤ longest → PhaseFreeOutcome (bytes u) old r new
-      → r.refusal ≡ accepted
+      → r.refusal ≡ no_refusal
   phase_free_taken k = taken DropsPhase phase_free_enough phase_free_enough_lem old k r new
 
   -- ---- no less is: with fewer bytes a word of 4,096 letters is refused 7

@@ -2,7 +2,7 @@
 use Rattle.std.specs.Prelude.{◌≡◌, List, [], ◌∷◌, ℕ, ◌≤◌, T, leb, length, get_or}
 use Rattle.std.proofs.Common.{ap, arith, leb→le}
 use Rattle.exact.specs.Meaning.Word.{Letter, I, H, W, T', bytes}
-use Rattle.exact.specs.Meaning.Limits.{longest, accepted, room_refusal}
+use Rattle.exact.specs.Meaning.Limits.{longest, no_refusal, room_refusal}
 use Rattle.exact.specs.Meaning.Lent.{lent, over}
 use Rattle.exact.specs.Outcomes.Lent.{handed_same, bytes_same}
 use Rattle.exact.specs.Cases.Table.{Each, each_more}
@@ -62,7 +62,7 @@ one_W_left r o =
     omega (arith, second (job5_only u (H ∷ []) (dots 2) (omega arith) (omega arith) (freed u u (H ∷ []) tt) o))
 
 -- room counted by the normal word's length: TWW refused two bytes
-pub room_by_the_normal_word : (r : Written) (new : List ℕ) → PhaseFreeOutcome (bytes (T' ∷ W ∷ W ∷ [])) (dots 2) r new → r.refusal ≡ accepted
+pub room_by_the_normal_word : (r : Written) (new : List ℕ) → PhaseFreeOutcome (bytes (T' ∷ W ∷ W ∷ [])) (dots 2) r new → r.refusal ≡ no_refusal
 room_by_the_normal_word r new o =
     let u = T' ∷ W ∷ W ∷ [] in
     ap (λ (x : Written). x.refusal) (handed_same (job5_only u T_I (dots 2) (omega arith) (omega arith) (freed u u T_I tt) o))

@@ -2,7 +2,7 @@
 use Rattle.std.specs.Prelude.{List, ℕ, length}
 use Rattle.exact.specs.Meaning.Word.{Letter as Gate, word, tees, bytes, Spelled}
 use Rattle.exact.specs.Meaning.Normal.{NormalOf, PhaseFreeOf}
-use Rattle.exact.specs.Meaning.Limits.{accepted}
+use Rattle.exact.specs.Meaning.Limits.{no_refusal}
 use Rattle.exact.specs.Meaning.Outcome.{Refusals, none, ◌then◌, Outcome}
 use Rattle.exact.specs.Meaning.Lent.{lent, untouched, Writes}
 use Rattle.exact.specs.Meaning.Refusals.{long, letter, room}
@@ -22,7 +22,7 @@ abbrev pub refused : ℕ → ℕ → Written
 refused n p = record { refusal = n; place = p; bytes = 0; tees = 0 }
 
 abbrev pub counts : List Gate → Written
-counts v = record { refusal = accepted; place = 0; bytes = length v; tees = tees v }
+counts v = record { refusal = no_refusal; place = 0; bytes = length v; tees = tees v }
 
 -- ---- jobs 3 and 5: long, letter, room, or the answer to the word's letters, written
 module _ (Answer : List Gate → List Gate → Type 0) (w old : List ℕ) where

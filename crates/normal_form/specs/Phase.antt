@@ -4,7 +4,7 @@ use Rattle.std.specs.Prelude.{◌≡◌, false, List, [], ◌∷◌, ◌++◌, �
 use Rattle.std.proofs.Common.{sym, ◌∙◌, ap, subst, append_assoc, arith, length-append}
 use Rattle.exact.specs.Meaning.Matrix.{ByOmega}
 use Rattle.exact.specs.Meaning.Word.{Letter, W, word, tees, bytes}
-use Rattle.exact.specs.Meaning.Limits.{longest, accepted}
+use Rattle.exact.specs.Meaning.Limits.{longest, no_refusal}
 use Rattle.exact.specs.Meaning.Lent.{lent}
 use Rattle.exact.specs.Matrices.Same.{Same-of, Same-trans}
 use Rattle.exact.specs.Matrices.Phase.{ws_behind}
@@ -25,7 +25,7 @@ use Rattle.normal_form.specs.Alike.{alike}
 
 -- ---- the same bytes, and a power of omega between the matrices
 module _ (u u' : List Letter) {old old' : List ℕ} {r r' : Written} {new new' : List ℕ} (o : PhaseFreeOutcome (bytes u) old r new)
-    (o' : PhaseFreeOutcome (bytes u') old' r' new') (e : r.refusal ≡ accepted) (e' : r'.refusal ≡ accepted) where
+    (o' : PhaseFreeOutcome (bytes u') old' r' new') (e : r.refusal ≡ no_refusal) (e' : r'.refusal ≡ no_refusal) where
   freed : DropsPhase u (answer_of_lem DropsPhase o e).v
   freed = of_bytes u (answer_of_lem DropsPhase o e).answer
 
@@ -84,21 +84,21 @@ beside_normal u v p n f =
     (phase_free_tees f.phase_free ∙ ap tees whole, omega (arith, phase_free_length f.phase_free, ap length whole))
 
 module _ (u : List Letter) {old old' : List ℕ} {r r' : Written} {new new' : List ℕ} (o : NormaliseOutcome (bytes u) old r new)
-    (o' : PhaseFreeOutcome (bytes u) old' r' new') (e : r.refusal ≡ accepted) where
+    (o' : PhaseFreeOutcome (bytes u) old' r' new') (e : r.refusal ≡ no_refusal) where
   beside : (p : List Letter) → DropsPhase u p → (tees p ≡ r.tees) × (length p ≤ r.bytes)
   beside p f =
       let a = answer_of_lem Normalises o e in
       let b = beside_normal u a.v p (of_bytes u a.answer) f in
       (b.0 ∙ sym (ap (λ (x : Written). x.tees) (counted Normalises o e)), omega (arith, b.1, ap (λ (x : Written). x.bytes) (counted Normalises o e)))
 
-  pub counts_beside : r'.refusal ≡ accepted → (r'.tees ≡ r.tees) × (r'.bytes ≤ r.bytes)
+  pub counts_beside : r'.refusal ≡ no_refusal → (r'.tees ≡ r.tees) × (r'.bytes ≤ r.bytes)
   counts_beside e' =
       let a = answer_of_lem DropsPhase o' e' in
       let b = beside a.v (of_bytes u a.answer) in
       let c = counted DropsPhase o' e' in
       (ap (λ (x : Written). x.tees) c ∙ b.0, omega (arith, b.1, ap (λ (x : Written). x.bytes) c))
 
-  pub room_beside : length u ≤ longest → r.bytes ≤ length old' → r'.refusal ≡ accepted
+  pub room_beside : length u ≤ longest → r.bytes ≤ length old' → r'.refusal ≡ no_refusal
   room_beside l k =
       let p = text_of false (run start u) in
       let f = answers false u in

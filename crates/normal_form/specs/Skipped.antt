@@ -2,8 +2,8 @@
 -- the answers are, so of job 3 and of job 5. Assumes nothing.
 use Rattle.std.specs.Prelude.{◌≡◌, refl, List, [], ◌∷◌, ℕ, ◌<◌, ◌≤◌, length, replicate}
 use Rattle.std.proofs.Common.{ap, arith}
-use Rattle.exact.specs.Meaning.Word.{letter_refusal as Gate, bytes, FirstOutside, Spelled}
-use Rattle.exact.specs.Meaning.Limits.{longest, accepted, long_refusal, letter_refusal}
+use Rattle.exact.specs.Meaning.Word.{Letter as Gate, bytes, FirstOutside, Spelled}
+use Rattle.exact.specs.Meaning.Limits.{longest, no_refusal, long_refusal, letter_refusal}
 use Rattle.exact.specs.Meaning.Outcome.{none, ◌then◌}
 use Rattle.exact.specs.Meaning.Lent.{lent, untouched, Writes}
 use Rattle.exact.specs.Meaning.Refusals.{long, letter, room}
@@ -37,7 +37,7 @@ many = 105 ∷ replicate longest 105
 -- ---- the programs
 module _ (Answer : List Gate → List Gate → Type 0) (old : List ℕ) (r : Written) (new : List ℕ) where
   -- the letter test skipped: `i` is taken
-  pub skipped : WordOutcome Answer small old r new → r.refusal ≡ accepted → ⊥
+  pub skipped : WordOutcome Answer small old r new → r.refusal ≡ no_refusal → ⊥
   skipped o f =
       let e = handed_same (only_letter Answer small old r new 0 (omega arith) (i_first []) o) in
       omega (arith, ap (λ (x : Written). x.refusal) e)

@@ -6,7 +6,7 @@ use Rattle.std.proofs.Math.Facts.{and_yes}
 use Rattle.exact.specs.Meaning.Matrix.{Same}
 use Rattle.exact.specs.Meaning.Word.{Letter, I, S, W, T', word, tees, bytes, Spelled}
 use Rattle.exact.specs.Meaning.Normal.{Normal, times, spell, without_w}
-use Rattle.exact.specs.Meaning.Limits.{longest, accepted, room_refusal}
+use Rattle.exact.specs.Meaning.Limits.{longest, no_refusal, room_refusal}
 use Rattle.exact.specs.Meaning.Lent.{Lent, lent, over, untouched, Writes}
 use Rattle.exact.specs.Matrices.Test.{same_test, same_by}
 use Rattle.exact.specs.Unique.Normal.{normal_fewest}
@@ -192,7 +192,7 @@ first_letters_5 r o =
 
 -- ---- a T count one too high
 pub tees_too_many : (new : List ℕ)
-    → NormaliseOutcome (bytes one_T) (dots 2) (record { refusal = accepted; place = 0; bytes = 2; tees = 2 }) new → ⊥
+    → NormaliseOutcome (bytes one_T) (dots 2) (record { refusal = no_refusal; place = 0; bytes = 2; tees = 2 }) new → ⊥
 tees_too_many new o =
     let e = handed_same (job3_only one_T (T' ∷ I ∷ []) (dots 2) (omega arith) (omega arith) T_normalised o) in
     omega (arith, ap (λ (x : Written). x.tees) e)

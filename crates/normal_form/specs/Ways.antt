@@ -1,7 +1,7 @@
 -- The ways out of jobs 3 and 5: a lemma for each, over plain values. Assumes nothing.
 use Rattle.std.specs.Prelude.{◌≡◌, refl, List, ℕ, ◌<◌, ◌≤◌, length}
 use Rattle.std.proofs.Common.{sym, ap, subst, arith}
-use Rattle.exact.specs.Meaning.Word.{letter_refusal as Gate, bytes, FirstOutside, Spelled}
+use Rattle.exact.specs.Meaning.Word.{Letter as Gate, bytes, FirstOutside, Spelled}
 use Rattle.exact.specs.Meaning.Limits.{longest, long_refusal, letter_refusal, room_refusal}
 use Rattle.exact.specs.Meaning.Outcome.{Rung, none, ◌then◌}
 use Rattle.exact.specs.Meaning.Lent.{lent, over, untouched}

@@ -1,7 +1,7 @@
 -- What the writer and the reader of circuits promise (docs/SCOPE.md, Jobs): their refusals in order, or the answer in the lent bytes.
 use Rattle.std.specs.Prelude.{◌≡◌, Bool, true, false, List, ℕ, length}
 use Rattle.exact.specs.Meaning.Word.{Letter, bytes, Spelled}
-use Rattle.exact.specs.Meaning.Limits.{accepted}
+use Rattle.exact.specs.Meaning.Limits.{no_refusal}
 use Rattle.exact.specs.Meaning.Outcome.{Refusal, Refusals, none, ◌then◌, Outcome}
 use Rattle.exact.specs.Meaning.Lent.{lent, untouched, Writes}
 use Rattle.exact.specs.Meaning.Refusals.{long, long_answer, letter, phase, statement, room}
@@ -15,7 +15,7 @@ abbrev pub refused : ℕ → ℕ → Written
 refused n p = record { refusal = n; place = p; bytes = 0 }
 
 abbrev pub accepted : List ℕ → Written
-accepted t = record { refusal = accepted; place = 0; bytes = length t }
+accepted t = record { refusal = no_refusal; place = 0; bytes = length t }
 
 abbrev pub edition_of : Declared.Edition → Edition
 edition_of Two = two

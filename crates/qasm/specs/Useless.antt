@@ -3,7 +3,7 @@ use Rattle.std.specs.Prelude.{◌≡◌, refl, List, [], ◌∷◌, ℕ, zero, s
 use Rattle.std.proofs.Common.{◌∙◌, ap, arith, lit≤}
 use Rattle.exact.specs.Meaning.Word.{Letter, I, H, T', bytes, Spelled}
 use Rattle.exact.specs.Meaning.Text.{Stops}
-use Rattle.exact.specs.Meaning.Limits.{longest, accepted}
+use Rattle.exact.specs.Meaning.Limits.{longest, no_refusal}
 use Rattle.exact.specs.Meaning.Limits as Limits
 use Rattle.exact.specs.Meaning.Outcome.{none, ◌then◌}
 use Rattle.exact.specs.Meaning.Lent.{lent, over, untouched, Writes}
@@ -27,7 +27,7 @@ module _ (s old : List ℕ) (p : ℕ) (h : Stops Right s p) (r : Written) (new :
   pub one_late : ReadOutcome s old r new → r.place ≡ suc p → ⊥
   one_late o e = omega (arith, ap (λ (x : Written). x.place) (handed_same (only_place o)))
 
-  pub accepts_all : ReadOutcome s old r new → r.refusal ≡ accepted → ⊥
+  pub accepts_all : ReadOutcome s old r new → r.refusal ≡ no_refusal → ⊥
   accepts_all o e = omega (arith, ap (λ (x : Written). x.refusal) (handed_same (only_place o)))
 
 -- ---- at short inputs
@@ -54,7 +54,7 @@ module _ (u : List Letter) (old : List ℕ) (short : length u ≤ longest) (enou
   only_written {r} {new} = written three u old passes r new
 
 -- refuses all
-pub refuses_all_write : (r : Written) (new : List ℕ) → WriteOutcome three [] (dots 50) r new → r.refusal ≡ accepted
+pub refuses_all_write : (r : Written) (new : List ℕ) → WriteOutcome three [] (dots 50) r new → r.refusal ≡ no_refusal
 refuses_all_write r new o = ap (λ (x : Written). x.refusal) (handed_same (only_written [] (dots 50) (lit≤ tt) (lit≤ tt) o))
 
 module _ (e : Edition) (c : List Statement) (may : AllAllowed (row e).has_phase c) (old : List ℕ) (short : length (letters c) ≤ longest)
@@ -65,7 +65,7 @@ module _ (e : Edition) (c : List Statement) (may : AllAllowed (row e).has_phase 
       only_read (text e c) (letters c)
       (record { right = record { edition = e; circuit = c; right = record { is = refl; all_allowed = may } }; is = refl }) old short enough r new
 
-pub refuses_all_read : (r : Written) (new : List ℕ) → ReadOutcome (text two []) [] r new → r.refusal ≡ accepted
+pub refuses_all_read : (r : Written) (new : List ℕ) → ReadOutcome (text two []) [] r new → r.refusal ≡ no_refusal
 refuses_all_read r new o = ap (λ (x : Written). x.refusal) (handed_same (only_letters two [] tt [] (lit≤ tt) (lit≤ tt) o))
 
 -- the letter I as a statement: behind the header nothing is written

@@ -2,7 +2,7 @@
 use Rattle.std.specs.Prelude.{◌≡◌, refl, List, ◌++◌, ℕ, ◌+◌, ◌<◌, ◌≤◌, length}
 use Rattle.std.proofs.Common.{sym, ◌∙◌, ap, subst, arith, Fits, lit≤, length-append}
 use Rattle.std.specs.Int.{w64}
-use Rattle.exact.specs.Meaning.Word.{letter_refusal as Gate, W, byte, FirstOutside, First, Spelled}
+use Rattle.exact.specs.Meaning.Word.{Letter as Gate, W, byte, FirstOutside, First, Spelled}
 use Rattle.exact.specs.Meaning.Limits.{longest, circuit_enough, long_refusal, letter_refusal, phase_refusal, room_refusal}
 use Rattle.exact.specs.Meaning.Outcome.{Rung}
 use Rattle.exact.specs.Meaning.Lent.{lent, untouched}

@@ -41,7 +41,7 @@ module _ (b n : ℕ) (e : n ≡ number_of b) where
 
 -- ---- a word: each case by its refusal and place
 abbrev pub refusal_of : Read → ℕ × ℕ
-refusal_of (Read.Word r) = (Limits.accepted, 0)
+refusal_of (Read.Word r) = (Limits.no_refusal, 0)
 refusal_of (Read.Outside p) = (Limits.letter_refusal, p)
 
 abbrev pub ReadAs : List ℕ → List ℕ → Read → Type 0

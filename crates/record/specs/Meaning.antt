@@ -1,7 +1,7 @@
 -- What reading a bench record hands back, and what writing its answer leaves (docs/SCOPE.md, The record).
 -- The record and its answer in bytes are crate exact's (Meaning.Record).
 use Rattle.std.specs.Prelude.{◌≡◌, List, ℕ, pos, length}
-use Rattle.exact.specs.Meaning.Limits.{accepted}
+use Rattle.exact.specs.Meaning.Limits.{no_refusal}
 use Rattle.exact.specs.Meaning.Lent.{over}
 use Rattle.exact.specs.Meaning.Outcome.{none, ◌then◌, Outcome}
 use Rattle.exact.specs.Meaning.Record.{Numbers, RightRecord, answer_text}
@@ -35,7 +35,7 @@ refused_record number place = record {
 
 -- the numbers of which the bytes are the text
 pub record Reads (s : List ℕ) (r : Record) : Type 0 where
-  pub taken : r.refusal ≡ accepted
+  pub taken : r.refusal ≡ no_refusal
   pub right : RightRecord s (numbers r)
 
 abbrev pub ReadOutcome : List ℕ → Record → Type 0

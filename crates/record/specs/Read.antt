@@ -14,11 +14,11 @@ use Rattle.record.specs.declared.lines.Four.TheVariants.{Is as IsFour, No as NoF
 
 -- ---- a name or none, four numbers or none, by their refusals
 abbrev pub name_refusal : Name → ℕ × ℕ
-name_refusal (Before next) = (Limits.accepted, 0)
+name_refusal (Before next) = (Limits.no_refusal, 0)
 name_refusal NoName = (Limits.record_refusal, 0)
 
 abbrev pub four_refusal : Four → ℕ × ℕ
-four_refusal (IsFour a b c d next) = (Limits.accepted, 0)
+four_refusal (IsFour a b c d next) = (Limits.no_refusal, 0)
 four_refusal NoFour = (Limits.record_refusal, 0)
 
 -- ---- lines

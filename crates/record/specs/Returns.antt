@@ -2,7 +2,7 @@
 use Rattle.std.specs.Prelude.{◌≡◌, refl, List, ℕ, ◌≤◌, ◌<◌, ℤ, length, drop}
 use Rattle.std.proofs.Common.{subst, arith, Fits}
 use Rattle.std.specs.Int.{w8, w64}
-use Rattle.exact.specs.Meaning.Limits.{accepted, record_refusal}
+use Rattle.exact.specs.Meaning.Limits.{no_refusal, record_refusal}
 use Rattle.exact.specs.Meaning.Outcome.{Rung}
 use Rattle.exact.specs.Meaning.Record.{Numbers, RightRecord}
 use Rattle.exact.specs.Whole.Machine.{held}
@@ -26,7 +26,7 @@ module _ {s : List ℕ} {r : Record} where
   pub refuses : ((x : Numbers) → RightRecord s x → ⊥) → r ≡ refused_record record_refusal 0 → ReadOutcome s r
   refuses n e = Rung.given 0 (n, refl) e
 
-  takes : r.refusal ≡ accepted → RightRecord s (numbers r) → ReadOutcome s r
+  takes : r.refusal ≡ no_refusal → RightRecord s (numbers r) → ReadOutcome s r
   takes e p = Rung.passed (λ i h. h.0 (numbers r) p) (record { taken = e; right = p })
 
   lacks : Missing all_lines s → r ≡ refused_record record_refusal 0 → ReadOutcome s r
@@ -89,7 +89,7 @@ module _ (s : List ℕ) (x : Whole) (is-k : KIs s s x) where
               byte_behind h = refuses (more_behind s (lines got) end found_all h)
 
               pub all_read : length s ≤ end → ReadOutcome s (record {
-                refusal = accepted;
+                refusal = no_refusal;
                 k = held w64 k;
                 n = n;
                 za = held w64 za;

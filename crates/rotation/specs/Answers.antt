@@ -7,7 +7,7 @@ use Rattle.exact.specs.Meaning.Matrix.{Matrix, ◌·◌, Same, scaled}
 use Rattle.exact.specs.Meaning.Word.{Letter, word, tees}
 use Rattle.exact.specs.Meaning.Triple.{Triple, entries, Unitary}
 use Rattle.exact.specs.Meaning.Rotation.{◌∘◌, SameRotation, Orthogonal}
-use Rattle.exact.specs.Meaning.Limits.{deepest, accepted}
+use Rattle.exact.specs.Meaning.Limits.{deepest, no_refusal}
 use Rattle.exact.specs.Meaning.Outcome.{none}
 use Rattle.exact.specs.Meaning.Refusals.{checks}
 use Rattle.exact.specs.Matrices.Same.{Same-sym}
@@ -33,19 +33,19 @@ module _ (k : ℤ) (n : ℕ) (z w : ZOmega) where
   asked = entries (given k n z w)
 
   -- ---- accepted, it is an answer
-  module _ (c : Count) (o : CountOutcome k n z w c) (e : c.refusal ≡ accepted) where
+  module _ (c : Count) (o : CountOutcome k n z w c) (e : c.refusal ≡ no_refusal) where
     pub counted : AnswersCount asked c
     counted =
-        accepted refused_count (AnswersCount asked) (λ (j : Count). j.refusal ≡ accepted) (checks k (quad z) (quad w))
+        accepted refused_count (AnswersCount asked) (λ (j : Count). j.refusal ≡ no_refusal) (checks k (quad z) (quad w))
         ((λ p h. omega arith), ((λ p h. omega arith), ((λ p h. omega arith), tt))) c e o
 
     pub none_cheaper : (u : List Letter) → Same asked (word u) → c.tees ≤ tees u
     none_cheaper u h = none_fewer u h counted.is counted.least
 
-  module _ (a : Answer) (o : RotationOutcome k n z w a) (e : a.refusal ≡ accepted) where
+  module _ (a : Answer) (o : RotationOutcome k n z w a) (e : a.refusal ≡ no_refusal) where
     pub turned : AnswersRotation asked a
     turned =
-        accepted refused (AnswersRotation asked) (λ (j : Answer). j.refusal ≡ accepted) (checks k (quad z) (quad w))
+        accepted refused (AnswersRotation asked) (λ (j : Answer). j.refusal ≡ no_refusal) (checks k (quad z) (quad w))
         ((λ p h. omega arith), ((λ p h. omega arith), ((λ p h. omega arith), tt))) a e o
 
   -- ---- what the rotation hands back is what the T count must
@@ -98,10 +98,10 @@ module _ (k : ℤ) (n : ℕ) (z w : ZOmega) where
             go (suc m) e = omega (arith, least_under (given k n z w) u x.is x.least (omega (arith, e)))
 
 -- ---- what the rotation keeps
-module _ (k : ℤ) (n : ℕ) (z w : ZOmega) (a : Answer) (o : RotationOutcome k n z w a) (e : a.refusal ≡ accepted) where
+module _ (k : ℤ) (n : ℕ) (z w : ZOmega) (a : Answer) (o : RotationOutcome k n z w a) (e : a.refusal ≡ no_refusal) where
   taken : Passed (checks k (quad z) (quad w))
   taken =
-      (through refused (AnswersRotation (entries (given k n z w))) (λ (j : Answer). j.refusal ≡ accepted) (checks k (quad z) (quad w)) none
+      (through refused (AnswersRotation (entries (given k n z w))) (λ (j : Answer). j.refusal ≡ no_refusal) (checks k (quad z) (quad w)) none
       ((λ p h. omega arith), ((λ p h. omega arith), ((λ p h. omega arith), tt))) a e o).0
 
   pub answer_orthogonal : Orthogonal (rotation_of a.rotation)
@@ -113,8 +113,8 @@ module _ (k : ℤ) (n : ℕ) (z w : ZOmega) (a : Answer) (o : RotationOutcome k 
 
 -- two triples, their matrices' product or phase, and what is answered for each
 module _ (k k' : ℤ) (n n' : ℕ) (z w z' w' : ZOmega) (a b : Answer) (o : RotationOutcome k n z w a) (p : RotationOutcome k' n' z' w' b)
-    (e : a.refusal ≡ accepted) (f : b.refusal ≡ accepted) where
-  pub answer_mul : (i : ℤ) (m : ℕ) (x y : ZOmega) (c : Answer) → RotationOutcome i m x y c → c.refusal ≡ accepted
+    (e : a.refusal ≡ no_refusal) (f : b.refusal ≡ no_refusal) where
+  pub answer_mul : (i : ℤ) (m : ℕ) (x y : ZOmega) (c : Answer) → RotationOutcome i m x y c → c.refusal ≡ no_refusal
       → Same (entries (given i m x y)) (entries (given k n z w) · entries (given k' n' z' w'))
       → SameRotation (rotation_of c.rotation) (rotation_of a.rotation ∘ rotation_of b.rotation)
   answer_mul i m x y c q g s =

@@ -1,7 +1,7 @@
 -- The columns of a unitary triple's rotation as the machine works them out: what each sum needs, and what it comes to. Every number on the way is at most
 -- 2^62 in size: squares and products by the coefficients' limit 2^30, the entries, at most 2^60, since the rotation is orthogonal. Assumes nothing.
 use Rattle.std.specs.Prelude.{◌≡◌, List, [], ◌∷◌, ℕ, ◌+◌, ◌^◌, ◌≤◌, T, leb, get_or, ℤ, nat_abs, ◌+ℤ◌, ◌-ℤ◌}
-use Rattle.std.proofs.Common.{◌∙◌, ap, ap₂, arith, SFits}
+use Rattle.std.proofs.Common.{sym, ◌∙◌, ap, ap₂, subst, arith, SFits}
 use Rattle.std.specs.Int.{w64}
 use Rattle.exact.specs.Meaning.Number.{Ω, ints, Sized, mul_q, conj_q}
 use Rattle.exact.specs.Meaning.Triple.{squares, crosses, Unitary}
@@ -165,6 +165,13 @@ unitary_held k z w few u = record { z_in = z_sized u 30 few; w_in = w_sized u 30
 high : {r : Exact.Root ℤ} → Up (2 ^ 60) r → Up (2 ^ 62) r
 high = up_le (omega arith)
 
+-- of parts under other names
+less_up : {u u' v v' : Exact.Root ℤ} → u ≡ u' → v ≡ v' → Up (2 ^ 62) (sub_r ints u' v') → Up (2 ^ 62) (sub_r ints u v)
+less_up d e = subst (λ (r : Exact.Root ℤ). Up (2 ^ 62) r) (sym (ap₂ (sub_r ints) d e))
+
+more_up : {u u' v v' : Exact.Root ℤ} → u ≡ u' → v ≡ v' → Up (2 ^ 62) (add_r ints u' v') → Up (2 ^ 62) (add_r ints u v)
+more_up d e = subst (λ (r : Exact.Root ℤ). Up (2 ^ 62) r) (sym (ap₂ (add_r ints) d e))
+
 module _ (z w : ZOmega) (h : Held (quad z) (quad w)) where
   pub z_small : Small z
   z_small = record { sized = sized_le (omega arith) h.z_in }
@@ -194,8 +201,8 @@ module _ (z w : ZOmega) (h : Held (quad z) (quad w)) where
         rw e
         (record {
           sized = product_sized (quad c) (quad w) conj_in h.w_in;
-          re_up = rw c-is (high h.up.z_up.x_up);
-          im_up = rw c-is (high h.up.z_up.y_up);
+          re_up = subst (λ (y : Ω). Up (2 ^ 62) (twice_re ints (mul_q ints y (quad w)))) (sym c-is) (high h.up.z_up.x_up);
+          im_up = subst (λ (y : Ω). Up (2 ^ 62) (twice_im ints (mul_q ints y (quad w)))) (sym c-is) (high h.up.z_up.y_up);
         })
 
 -- ---- the squares s of z and t of w, and m, twice the product
@@ -262,17 +269,17 @@ module _ (z w : ZOmega) (h : Held (quad z) (quad w)) (s t : Parts) (s_is : Squar
   pub x_fit : XFits s t m
   x_fit =
       record {
-        x_fits = record { left = s_re; right = t_re; rest = rw (s_is.re_is, t-is.re_is) (high h.up.x_up.x_up) };
+        x_fits = record { left = s_re; right = t_re; rest = less_up s_is.re_is t-is.re_is (high h.up.x_up.x_up) };
         im_up = s_im;
-        y_fits = record { left = up_neg s_im; right = t_im; rest = rw (s_is.im_is, t-is.im_is) (high h.up.x_up.y_up) };
+        y_fits = record { left = up_neg s_im; right = t_im; rest = less_up (ap (neg_r ints) s_is.im_is) t-is.im_is (high h.up.x_up.y_up) };
         z_up = rw m_is.re_is (straight_twiced z w h x x_is).re_up;
       }
 
   pub y_fit : YFits s t m
   y_fit =
       record {
-        x_fits = record { left = s_im; right = t_im; rest = rw (s_is.im_is, t-is.im_is) (high h.up.y_up.x_up) };
-        y_fits = record { left = s_re; right = t_re; total = rw (s_is.re_is, t-is.re_is) (high h.up.y_up.y_up) };
+        x_fits = record { left = s_im; right = t_im; rest = less_up s_is.im_is t-is.im_is (high h.up.y_up.x_up) };
+        y_fits = record { left = s_re; right = t_re; total = more_up s_is.re_is t-is.re_is (high h.up.y_up.y_up) };
         z_up = rw m_is.im_is (straight_twiced z w h x x_is).im_up;
       }
 

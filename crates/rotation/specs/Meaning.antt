@@ -5,7 +5,7 @@ use Rattle.exact.specs.Meaning.Matrix.{Matrix}
 use Rattle.exact.specs.Meaning.Triple.{entries}
 use Rattle.exact.specs.Meaning.Rotation as Exact
 use Rattle.exact.specs.Meaning.Rotation.{Three, LeastExponent, RotationOf}
-use Rattle.exact.specs.Meaning.Limits.{accepted}
+use Rattle.exact.specs.Meaning.Limits.{no_refusal}
 use Rattle.exact.specs.Meaning.Outcome.{Outcome}
 use Rattle.exact.specs.Meaning.Refusals.{checks}
 use Rattle.ring.specs.Meaning.{quad}
@@ -36,7 +36,7 @@ abbrev pub refused : ℕ → ℕ → Answer
 refused n p = record { refusal = n; rotation = none }
 
 pub record AnswersRotation (m : Matrix) (r : Answer) : Type 0 where
-  pub taken : r.refusal ≡ accepted
+  pub taken : r.refusal ≡ no_refusal
   pub is : RotationOf m (rotation_of r.rotation)
   pub least : LeastExponent (rotation_of r.rotation) r.rotation.e
 
@@ -48,7 +48,7 @@ abbrev pub refused_count : ℕ → ℕ → Count
 refused_count n p = record { refusal = n; tees = 0 }
 
 pub record AnswersCount (m : Matrix) (r : Count) : Type 0 where
-  pub taken : r.refusal ≡ accepted
+  pub taken : r.refusal ≡ no_refusal
   pub rotation : Exact.Rotation
   pub is : RotationOf m rotation
   pub least : LeastExponent rotation r.tees

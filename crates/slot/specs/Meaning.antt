@@ -6,7 +6,7 @@ use Rattle.exact.specs.Meaning.Word.{Letter, word, byte, IsLetter}
 use Rattle.exact.specs.Meaning.Normal.{Syllable, HT, SHT, Shape, Fits, tail_word, spell, NormalOf}
 use Rattle.exact.specs.Meaning.Clifford.{Clifford, Within, clifford}
 use Rattle.exact.specs.Meaning.Limits as Limits
-use Rattle.exact.specs.Meaning.Limits.{accepted, longest}
+use Rattle.exact.specs.Meaning.Limits.{no_refusal, longest}
 use Rattle.exact.specs.Meaning.Outcome.{Refusal, Refusals, none, ◌then◌, plain, Outcome}
 use Rattle.slot.specs.declared.Answer.{Answer}
 
@@ -108,7 +108,7 @@ abbrev pub refused : ℕ → Answer
 refused n = record { refusal = n; length = 0 }
 
 abbrev pub long : List Letter → Answer
-long v = record { refusal = accepted; length = length v }
+long v = record { refusal = no_refusal; length = length v }
 
 pub record Measured (r : Slot) (a : Answer) : Type 0 where
   pub u : List Letter

@@ -6,7 +6,7 @@ use Rattle.std.proofs.lemmas.Bool.{eqb-false}
 use Rattle.exact.specs.Meaning.Word.{Letter, word, byte, bytes}
 use Rattle.exact.specs.Meaning.Normal.{Shape, spell, NormalOf}
 use Rattle.exact.specs.Meaning.Limits as Limits
-use Rattle.exact.specs.Meaning.Limits.{accepted, longest}
+use Rattle.exact.specs.Meaning.Limits.{no_refusal, longest}
 use Rattle.exact.specs.Meaning.Outcome.{Rung, none, ◌then◌}
 use Rattle.exact.specs.Cases.Letters.{byte_inj}
 use Rattle.exact.specs.Outcomes.Ladder.{accepted}
@@ -46,7 +46,7 @@ module _ {u : List Letter} {r : Slot} (g : GivenBy u r) where
       ap length (one_normal (word u) v (spell (shape u)) a (record { normal = normal u; same = normal_of u })) ∙ own_number
 
   -- an accepted call of job 3 on them
-  module _ {old : List ℕ} {w : Written} {new : List ℕ} (o : NormaliseOutcome (bytes u) old w new) (e : w.refusal ≡ accepted) where
+  module _ {old : List ℕ} {w : Written} {new : List ℕ} (o : NormaliseOutcome (bytes u) old w new) (e : w.refusal ≡ no_refusal) where
     pub job_text : {n : Shape} → Shows n r → take w.bytes new ≡ bytes (spell n)
     job_text {n} x =
         let a = answer_of_lem Normalises o e in
@@ -58,17 +58,17 @@ module _ {u : List Letter} {r : Slot} (g : GivenBy u r) where
         ap (λ (x : Written). x.bytes) (counted Normalises o e) ∙ answer_long (of_bytes u a.answer)
 
 -- ---- the length that is answered is the record's own number, and so that of job 3
-pub length_own : {r : Slot} {a : Answer} → LengthOutcome r a → a.refusal ≡ accepted → a.length ≡ get_or r.rest 1 0
+pub length_own : {r : Slot} {a : Answer} → LengthOutcome r a → a.refusal ≡ no_refusal → a.length ≡ get_or r.rest 1 0
 length_own {r} {a} o e =
     ap (λ (x : Answer). x.length) m.is ∙ answer_long m.given m.normal
   where
     m : Measured r a
-    m = accepted (λ n p. refused n) (Measured r) (λ (x : Answer). x.refusal ≡ accepted) (slot r then none) (λ p z. omega arith, tt) a e o
+    m = accepted (λ n p. refused n) (Measured r) (λ (x : Answer). x.refusal ≡ no_refusal) (slot r then none) (λ p z. omega arith, tt) a e o
 
-module _ {b : ℕ} {r : Slot} {x : Left} (o : AddOutcome b r x) (e : x.answer.refusal ≡ accepted) where
+module _ {b : ℕ} {r : Slot} {x : Left} (o : AddOutcome b r x) (e : x.answer.refusal ≡ no_refusal) where
   extended : Extended b r x
   extended =
-      accepted (λ n p. left (refused n) r) (Extended b r) (λ (y : Left). y.answer.refusal ≡ accepted) (add_refusals b r)
+      accepted (λ n p. left (refused n) r) (Extended b r) (λ (y : Left). y.answer.refusal ≡ no_refusal) (add_refusals b r)
       (λ p z. omega arith, (λ p z. omega arith, (λ p z. omega arith, tt))) x e o
 
   pub add_own : x.answer.length ≡ get_or x.slot.rest 1 0

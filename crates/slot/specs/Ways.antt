@@ -4,7 +4,7 @@ use Rattle.std.proofs.Common.{◌∙◌, ap, ap₂, subst, arith}
 use Rattle.exact.specs.Meaning.Word.{Letter, word, byte, IsLetter}
 use Rattle.exact.specs.Meaning.Normal.{Shape, spell, Normal}
 use Rattle.exact.specs.Meaning.Limits as Limits
-use Rattle.exact.specs.Meaning.Limits.{accepted}
+use Rattle.exact.specs.Meaning.Limits.{no_refusal}
 use Rattle.exact.specs.Meaning.Outcome.{Rung, none, ◌then◌, Outcome}
 use Rattle.exact.specs.Cases.Letters.{byte_inj, letter_back}
 use Rattle.exact.specs.Matrices.Same.{Same-of}
@@ -42,7 +42,7 @@ pub length_wrong : {r : Slot} {t : Told} {a : Answer} → Tells r t → t ≡ To
 length_wrong {r} n w e = Rung.given 0 (subst (Tells r) w n, refl) e
 
 pub length_told : {r : Slot} {t : Told} {x : Reading} → Tells r t → t ≡ Told.Right x
-    → LengthOutcome r (record { refusal = accepted; length = x.bytes })
+    → LengthOutcome r (record { refusal = no_refusal; length = x.bytes })
 length_told {r} {t} {x} n w =
     let h : Standing r x = subst (Tells r) w n in
     let st = h.st in
@@ -52,7 +52,7 @@ length_told {r} {t} {x} n w =
       v = spell (shape_of st);
       given = text_gives st h.ranged h.shows;
       normal = record { normal = own_normal st h.ranged; same = Same-of refl };
-      is = ap (λ (n : ℕ). record { refusal = accepted; length = n }) h.holds.bytes_is;
+      is = ap (λ (n : ℕ). record { refusal = no_refusal; length = n }) h.holds.bytes_is;
     })
 
 -- ---- a letter, by its number, more in a right record: the rungs below 17 and 2
@@ -123,7 +123,7 @@ module _ (number : ℕ) {items rest : List ℕ} {x : Reading} (h : Standing (slo
         let form = over_form l st h.ranged h.shows o (byte_inj o.l l o.is) in
         omega (arith, o.more, ap (λ (n : Shape). length (codes n)) form, shown.few)
 
-    pub one_added : MoreOutcome number (slot_of items rest) (left (record { refusal = accepted; length = y.bytes }) (slot_of new six'))
+    pub one_added : MoreOutcome number (slot_of items rest) (left (record { refusal = no_refusal; length = y.bytes }) (slot_of new six'))
     one_added =
         Rung.passed (λ q o. not_over o.0)
         (record {
@@ -134,7 +134,7 @@ module _ (number : ℕ) {items rest : List ℕ} {x : Reading} (h : Standing (slo
           byte_is = refl;
           more = given_more (text_gives st h.ranged h.shows) (shown_adds l st h.ranged h.shows shown);
           normal = record { normal = own_normal next (read_ranged l st h.ranged); same = (read_next l st h.ranged).same };
-          is = ap (λ (n : ℕ). record { refusal = accepted; length = n }) held.bytes_is;
+          is = ap (λ (n : ℕ). record { refusal = no_refusal; length = n }) held.bytes_is;
         })
 
 -- ---- a letter more

@@ -5,7 +5,7 @@ use Rattle.std.specs.Int.{w64}
 use Rattle.exact.specs.Meaning.Matrix.{Matrix}
 use Rattle.exact.specs.Meaning.Word.{Letter, bytes, Spelled}
 use Rattle.exact.specs.Meaning.Triple.{Triple, entries}
-use Rattle.exact.specs.Meaning.Limits.{deepest, accepted}
+use Rattle.exact.specs.Meaning.Limits.{deepest, no_refusal}
 use Rattle.exact.specs.Meaning.Outcome.{Rung, none, ◌then◌}
 use Rattle.exact.specs.Meaning.Lent.{Lent, lent, untouched, Writes}
 use Rattle.exact.specs.Meaning.Refusals.{long, letter, room}
@@ -91,11 +91,11 @@ module _ (t : Triple) (ready : Ready t) (small : t.n < 8) (few : t.k ≤ deepest
         go (Rung.passed n x) = absurd (f (ap (λ (y : Lent Job3.Written). y.handed.refusal) x.is))
 
     pub with_steps : r.refusal ≡ 0 → (i : ℕ) → i ≡ steps t
-        → AnsweredBy t old (record { refusal = accepted; bytes = r.bytes; tees = r.tees; steps = i }) new
+        → AnsweredBy t old (record { refusal = no_refusal; bytes = r.bytes; tees = r.tees; steps = i }) new
     with_steps taken i i-is = go job_3
       where
         go : Written bytes Normalised.counts (Spelled Normalises (bytes (letters t))) old Normalised.refused (lent r new)
-            → AnsweredBy t old (record { refusal = accepted; bytes = r.bytes; tees = r.tees; steps = i }) new
+            → AnsweredBy t old (record { refusal = no_refusal; bytes = r.bytes; tees = r.tees; steps = i }) new
         go (Rung.given p h is) = absurd (omega (arith, taken, ap (λ (y : Lent Job3.Written). y.handed.refusal) is))
         go (Rung.passed n x) =
             Rung.passed (λ p h. n p (record { v = h.0.v.letters; answer = to_letters h.0.v h.0.answer; more = h.0.more }, h.1))
@@ -104,7 +104,7 @@ module _ (t : Triple) (ready : Ready t) (small : t.n < 8) (few : t.k ≤ deepest
               answer = to_triple x.v x.answer;
               is = λ j.
                   let y = x.is j in
-                  lent (record { refusal = accepted; bytes = y.handed.bytes; tees = y.handed.tees; steps = i-is j }) y.buffer;
+                  lent (record { refusal = no_refusal; bytes = y.handed.bytes; tees = y.handed.tees; steps = i-is j }) y.buffer;
             })
 
 -- ---- from the check to job 4

@@ -2,7 +2,7 @@
 -- to a phase too, the number handed back is theirs, and all such words have its parity, which is n's. Assumes nothing.
 use Rattle.std.specs.Prelude.{◌≡◌, List, ℕ, ◌%◌, ℤ, take}
 use Rattle.std.proofs.Common.{◌∙◌, ap}
-use Rattle.exact.specs.Meaning.Limits.{accepted}
+use Rattle.exact.specs.Meaning.Limits.{no_refusal}
 use Rattle.exact.specs.Meaning.Lent.{lent, Writes}
 use Rattle.exact.specs.Matrices.Parity.{tees_n}
 use Rattle.exact.specs.Matrices.Same.{Same-sym}
@@ -14,7 +14,7 @@ use Rattle.synthesis_of_clifford_t.specs.Meaning.{text, counts, SpellingOf, aske
 use Rattle.synthesis_of_clifford_t.specs.OneMatrix.{seen, answer_there, seen_is}
 
 module _ (k : ℤ) (n : ℕ) (z w : ZOmega) (old : List ℕ) (r : Synthesis) (new : List ℕ) (o : SynthesiseOutcome k n z w old r new)
-    (e : r.refusal ≡ accepted) where
+    (e : r.refusal ≡ no_refusal) where
   answer : Writes text counts (SpellingOf (asked k n z w old)) old (lent r new)
   answer = answer_there k n z w old r new o e
 

@@ -5,7 +5,7 @@ use Rattle.exact.specs.Meaning.Matrix.{Matrix}
 use Rattle.exact.specs.Meaning.Word.{Letter, tees, bytes}
 use Rattle.exact.specs.Meaning.Normal.{NormalOf}
 use Rattle.exact.specs.Meaning.Triple.{Triple, entries}
-use Rattle.exact.specs.Meaning.Limits.{accepted}
+use Rattle.exact.specs.Meaning.Limits.{no_refusal}
 use Rattle.exact.specs.Meaning.Outcome.{Refusals, Outcome, none, ◌then◌, ◌also◌}
 use Rattle.exact.specs.Meaning.Lent.{lent, untouched, Writes}
 use Rattle.exact.specs.Meaning.Refusals.{checks, room}
@@ -27,7 +27,7 @@ abbrev pub refused : ℕ → ℕ → Synthesis
 refused n p = record { refusal = n; bytes = 0; tees = 0; steps = 0 }
 
 abbrev pub counts : Spelling → Synthesis
-counts a = record { refusal = accepted; bytes = length a.letters; tees = tees a.letters; steps = a.steps }
+counts a = record { refusal = no_refusal; bytes = length a.letters; tees = tees a.letters; steps = a.steps }
 
 -- the steps from the reduced triple of the matrix m, which is job 1's answer
 pub record StepsOf (m : Matrix) (i : ℕ) : Type 0 where

@@ -5,7 +5,7 @@ use Rattle.std.proofs.Common.{sym, ◌∙◌, ap, subst, arith}
 use Rattle.exact.specs.Meaning.Number.{residue}
 use Rattle.exact.specs.Meaning.Matrix.{Same}
 use Rattle.exact.specs.Meaning.Triple.{Triple}
-use Rattle.exact.specs.Meaning.Limits.{deepest, accepted}
+use Rattle.exact.specs.Meaning.Limits.{deepest, no_refusal}
 use Rattle.exact.specs.Meaning.Lent.{Lent, lent, untouched, Writes}
 use Rattle.exact.specs.Cases.Letters.{bytes_length}
 use Rattle.exact.specs.Algebra.Norm.{norm}
@@ -30,9 +30,9 @@ seen j = (j.handed, take j.handed.bytes j.buffer)
 
 module _ (k : ℤ) (n : ℕ) (z w : ZOmega) (old : List ℕ) (r : Synthesis) (new : List ℕ) (o : SynthesiseOutcome k n z w old r new) where
   -- accepted, it is an answer
-  pub answer_there : r.refusal ≡ accepted → Writes text counts (SpellingOf (asked k n z w old)) old (lent r new)
+  pub answer_there : r.refusal ≡ no_refusal → Writes text counts (SpellingOf (asked k n z w old)) old (lent r new)
   answer_there e =
-      accepted (untouched refused old) (Writes text counts (SpellingOf (asked k n z w old)) old) (λ (j : Lent Synthesis). j.handed.refusal ≡ accepted)
+      accepted (untouched refused old) (Writes text counts (SpellingOf (asked k n z w old)) old) (λ (j : Lent Synthesis). j.handed.refusal ≡ no_refusal)
       (refusals k n z w old) ((λ p h. omega arith), ((λ p h. omega arith), ((λ p h. omega arith), ((λ p h. omega arith), tt)))) (lent r new) e o
 
   pub seen_is : (y : Writes text counts (SpellingOf (asked k n z w old)) old (lent r new)) → seen (lent r new) ≡ (counts y.v, text y.v)
@@ -49,8 +49,8 @@ module _ (k : ℤ) (n : ℕ) (z w : ZOmega) (old : List ℕ) (r : Synthesis) (ne
       (refusals k n z w old) (λ h j y. subst (λ (x : Lent Synthesis). P x.handed) (sym y.is) (g h y.v y.answer)) (lent r new) o
 
   -- refused, there are none
-  pub steps_refused : (r.refusal ≡ accepted → ⊥) → r.steps ≡ 0
-  steps_refused = each (λ s. (s.refusal ≡ accepted → ⊥) → s.steps ≡ 0) (λ m p f. refl) (λ h a s f. absurd (f refl))
+  pub steps_refused : (r.refusal ≡ no_refusal → ⊥) → r.steps ≡ 0
+  steps_refused = each (λ s. (s.refusal ≡ no_refusal → ⊥) → s.steps ≡ 0) (λ m p f. refl) (λ h a s f. absurd (f refl))
 
   -- and never more than 119, since k is at most 60
   pub steps_most : r.steps ≤ 2 * deepest - 1
@@ -91,7 +91,7 @@ module _ (k : ℤ) (n : ℕ) (z w : ZOmega) (old : List ℕ) (r : Synthesis) (ne
     pub steps_at_0 : t.k ≡ 0 → r.steps ≡ 0
     steps_at_0 e = omega (arith, steps_few)
 
-    module _ (e : r.refusal ≡ accepted) (more : 0 < t.k) where
+    module _ (e : r.refusal ≡ no_refusal) (more : 0 < t.k) where
       y : Writes text counts (SpellingOf (asked k n z w old)) old (lent r new)
       y = answer_there e
 
@@ -109,7 +109,7 @@ module _ (k : ℤ) (n : ℕ) (z w : ZOmega) (old : List ℕ) (j : Lent Synthesis
     (k' : ℤ) (n' : ℕ) (z' w' : ZOmega) (old' : List ℕ) (j' : Lent Synthesis) where
   pub one_matrix : Same (asked k n z w old) (asked k' n' z' w' old')
       → SynthesiseOutcome k n z w old j.handed j.buffer → SynthesiseOutcome k' n' z' w' old' j'.handed j'.buffer
-      → j.handed.refusal ≡ accepted → j'.handed.refusal ≡ accepted
+      → j.handed.refusal ≡ no_refusal → j'.handed.refusal ≡ no_refusal
       → seen j ≡ seen j'
   one_matrix s o o' e e' =
       let y = answer_there k n z w old j.handed j.buffer o e in

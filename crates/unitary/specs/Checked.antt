@@ -71,7 +71,7 @@ module _ (k : ℤ) (z w : ZOmega) (fits : SFits w64 k) where
       pub refused_sums : not c ≡ true → CheckOutcome k z w Limits.unitary_refusal
       refused_sums t = Rung.passed exponent_passed (Rung.passed coefficients_passed (Rung.given 0 (sums_of.no (not-true c t), refl) refl))
 
-      pub all_passed : not c ≡ false → CheckOutcome k z w Limits.accepted
+      pub all_passed : not c ≡ false → CheckOutcome k z w Limits.no_refusal
       all_passed t =
           Rung.passed exponent_passed (Rung.passed coefficients_passed (Rung.passed (λ p h. h.0 (sums_of.yes (not-false c t))) refl))
 

@@ -3,7 +3,7 @@ use Rattle.std.specs.Prelude.{◌≡◌, List, ℕ, ◌<◌, ℤ, pos}
 use Rattle.exact.specs.Meaning.Matrix.{Matrix, Same}
 use Rattle.exact.specs.Meaning.Word.{Letter, word, Spelled}
 use Rattle.exact.specs.Meaning.Triple.{Triple, entries, Reduced}
-use Rattle.exact.specs.Meaning.Limits.{accepted}
+use Rattle.exact.specs.Meaning.Limits.{no_refusal}
 use Rattle.exact.specs.Meaning.Outcome.{Outcome, none as last, ◌then◌}
 use Rattle.exact.specs.Meaning.Refusals.{handed_in, long, letter, deep, checks}
 use Rattle.ring.specs.Meaning.{quad}
@@ -39,7 +39,7 @@ abbrev pub refused : ℕ → ℕ → Checked
 refused n p = record { refusal = n; matrix = none }
 
 pub record Reduces (m : Matrix) (r : Checked) : Type 0 where
-  pub taken : r.refusal ≡ accepted
+  pub taken : r.refusal ≡ no_refusal
   pub answer : Answers m (triple r.matrix)
 
 abbrev pub ReduceOutcome : ℤ → ℕ → ZOmega → ZOmega → Checked → Type 0
@@ -50,7 +50,7 @@ abbrev pub stopped : ℕ → ℕ → FromGates
 stopped n p = record { refusal = n; place = p; matrix = none }
 
 pub record Multiplies (u : List Letter) (r : FromGates) : Type 0 where
-  pub taken : r.refusal ≡ accepted
+  pub taken : r.refusal ≡ no_refusal
   pub nowhere : r.place ≡ 0
   pub answer : Answers (word u) (triple r.matrix)
 

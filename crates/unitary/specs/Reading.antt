@@ -135,9 +135,9 @@ module _ (w : List ℕ) (few : length w ≤ longest) (b : ℕ) (s : Scanned w b)
         behind o (Rung.given (i - 1) (record { letters = letters_of w; spelled = spelled; holds = step_deep w i some inside t r read acted l }) e)
 
   pub read_whole : (t : DOmegaUnitary) (i : ℕ) → i ≤ 0 → Read (letters_of w) i t
-      → MatrixOutcome w (record { refusal = Limits.accepted; place = 0; matrix = t })
+      → MatrixOutcome w (record { refusal = Limits.no_refusal; place = 0; matrix = t })
   read_whole t zero h read =
-      behind (record { refusal = Limits.accepted; place = 0; matrix = t })
+      behind (record { refusal = Limits.no_refusal; place = 0; matrix = t })
       (Rung.passed not_deep (record { letters = letters_of w; spelled = spelled; holds = record { taken = refl; nowhere = refl; answer = answer } }))
     where
       not_deep : (p : ℕ) → Spelled DeepAt w p → ⊥

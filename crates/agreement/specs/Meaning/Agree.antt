@@ -1,6 +1,6 @@
 -- What `agree` promises: the outcomes of both ways, and yes exactly when both are accepted with the same bytes.
 use Rattle.std.specs.Prelude.{◌≡◌, List, ℕ, take}
-use Rattle.exact.specs.Meaning.Limits.{accepted}
+use Rattle.exact.specs.Meaning.Limits.{no_refusal}
 use Rattle.exact.specs.Meaning.Outcome.{Refusal, Outcome, none, ◌then◌, HandsOn, Decides}
 use Rattle.exact.specs.Meaning.Lent.{Lent, lent, untouched}
 use Rattle.unitary.specs.declared.FromGates.{FromGates}
@@ -15,7 +15,7 @@ use Rattle.agreement.specs.Meaning.Demand3.{Synthesises}
 -- ---- the second way: job 2, and job 4 where it is accepted
 -- a refusal of job 2, at its place
 abbrev pub earlier : FromGates → Refusal
-earlier m = record { number = m.refusal; At = λ p. (m.refusal ≡ accepted → ⊥) × (p ≡ m.place) }
+earlier m = record { number = m.refusal; At = λ p. (m.refusal ≡ no_refusal → ⊥) × (p ≡ m.place) }
 
 -- job 4's answer as job 3 hands one back
 abbrev pub handed_on : Lent Synthesis → Lent Written
@@ -29,8 +29,8 @@ Second m old r new = Outcome (untouched Job3.refused old) (HandsOn (Job4Of m old
 
 -- both accepted, with the same bytes
 pub record Alike (first : Written) (new₁ : List ℕ) (second : Written) (new₂ : List ℕ) : Type 0 where
-  pub first_taken : first.refusal ≡ accepted
-  pub second_taken : second.refusal ≡ accepted
+  pub first_taken : first.refusal ≡ no_refusal
+  pub second_taken : second.refusal ≡ no_refusal
   pub same_bytes : take first.bytes new₁ ≡ take second.bytes new₂
 
 pub record AgreeOutcome (bs old₁ old₂ : List ℕ) (r : Agreement) (new₁ new₂ : List ℕ) : Type 0 where

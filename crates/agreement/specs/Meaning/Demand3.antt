@@ -4,7 +4,7 @@ use Rattle.exact.specs.Meaning.Matrix.{Same}
 use Rattle.exact.specs.Meaning.Word.{Letter, word, bytes}
 use Rattle.exact.specs.Meaning.Normal.{Normal}
 use Rattle.exact.specs.Meaning.Endings.{AllShallow}
-use Rattle.exact.specs.Meaning.Limits.{longest, enough, accepted}
+use Rattle.exact.specs.Meaning.Limits.{longest, enough, no_refusal}
 use Rattle.exact.specs.Meaning.Lent.{Lent, lent, over}
 use Rattle.unitary.specs.declared.FromGates.{FromGates}
 use Rattle.unitary.specs.Meaning.{MatrixOutcome}
@@ -37,7 +37,7 @@ pub record Agreed (u v : List Letter) (old₁ old₂ : List ℕ) (first : Lent W
   pub normal : Normal v
   pub same : Same (word v) (word u)
   pub first_is : first ≡ lent (Job3.counts v) (over (bytes v) old₁)
-  pub matrix_taken : matrix.refusal ≡ accepted
+  pub matrix_taken : matrix.refusal ≡ no_refusal
   pub steps : ℕ
   pub counted : StepsOf (word u) steps
   pub second_is : second ≡ lent (Job4.counts (record { letters = v; steps = steps })) (over (bytes v) old₂)

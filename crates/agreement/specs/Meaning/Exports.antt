@@ -3,7 +3,7 @@ use Rattle.std.specs.Prelude.{◌≡◌, List, [], ◌∷◌, ℕ, ◌≤◌, �
 use Rattle.exact.specs.Meaning.Matrix.{Same}
 use Rattle.exact.specs.Meaning.Word.{Letter, word, tees, bytes}
 use Rattle.exact.specs.Meaning.Normal.{Normal}
-use Rattle.exact.specs.Meaning.Limits.{enough, accepted}
+use Rattle.exact.specs.Meaning.Limits.{enough, no_refusal}
 use Rattle.exact.specs.Meaning.Lent.{over}
 use Rattle.normal_form.specs.Meaning.{Normalises}
 use Rattle.handed.specs.Meaning.{counts_of}
@@ -37,13 +37,13 @@ pub record BothCalls (u : List Letter) (old₁ old₂ : List ℕ) (first : Wrote
 
 -- accepted, with v written
 abbrev pub wrote : List Letter → List ℕ → Wrote
-wrote v old = (accepted, (0 ∷ length v ∷ tees v ∷ [], over (bytes v) old))
+wrote v old = (no_refusal, (0 ∷ length v ∷ tees v ∷ [], over (bytes v) old))
 
 pub record AgreedCalls (u v : List Letter) (old₁ old₂ : List ℕ) (first : Wrote) (matrix : Made) (second : Wrote) : Type 0 where
   pub normal : Normal v
   pub same : Same (word v) (word u)
   pub first_is : first ≡ wrote v old₁
-  pub matrix_taken : matrix.0 ≡ accepted
+  pub matrix_taken : matrix.0 ≡ no_refusal
   pub second_is : second ≡ wrote v old₂
 
 -- ---- two words: the refusal, the counts, and the bytes that were written

@@ -4,7 +4,7 @@ use Rattle.std.specs.Prelude.{List, [], ℕ, length}
 use Rattle.exact.specs.Meaning.Matrix.{Matrix}
 use Rattle.exact.specs.Meaning.Word.{tees, bytes}
 use Rattle.exact.specs.Meaning.Triple.{entries}
-use Rattle.exact.specs.Meaning.Limits.{accepted}
+use Rattle.exact.specs.Meaning.Limits.{no_refusal}
 use Rattle.exact.specs.Meaning.Outcome.{Outcome, none, ◌then◌}
 use Rattle.exact.specs.Meaning.Lent.{Lent, lent, over, Writes}
 use Rattle.exact.specs.Meaning.Refusals.{handed_in, checks, malformed}
@@ -21,7 +21,7 @@ refused old n p = printed old (answer_text n [] 0 0)
 
 -- of a word and its steps
 abbrev pub word_text : Spelling → List ℕ
-word_text a = answer_text accepted (bytes a.letters) (tees a.letters) a.steps
+word_text a = answer_text no_refusal (bytes a.letters) (tees a.letters) a.steps
 
 abbrev pub word_size : Spelling → ℕ
 word_size a = length (word_text a)

@@ -30,8 +30,8 @@ abbrev pub circuit_enough : ℕ
 circuit_enough = 57394
 
 -- ---- refusals; 0 is accepted
-abbrev pub accepted : ℕ
-accepted = 0
+abbrev pub no_refusal : ℕ
+no_refusal = 0
 
 abbrev pub long_refusal : ℕ
 long_refusal = 1

@@ -5,7 +5,7 @@ use Rattle.std.specs.Float.{binary64}
 use Rattle.std.specs.Float.Ieee.{of_bits}
 use Rattle.exact.specs.Meaning.Number.{Ω}
 use Rattle.exact.specs.Meaning.Triple.{Triple, entries}
-use Rattle.exact.specs.Meaning.Limits.{accepted}
+use Rattle.exact.specs.Meaning.Limits.{no_refusal}
 use Rattle.exact.specs.Meaning.Outcome.{Outcome}
 use Rattle.exact.specs.Meaning.Refusals.{checks}
 use Rattle.ring.specs.Meaning.{quad}
@@ -41,7 +41,7 @@ abbrev pub refused : ℕ → ℕ → Answer
 refused n p = record { refusal = n; view = nothing }
 
 pub record Views (t : Triple) (r : Answer) : Type 0 where
-  pub taken : r.refusal ≡ accepted
+  pub taken : r.refusal ≡ no_refusal
   pub viewed : Viewed t r.view
 
 abbrev pub ViewOutcome : ℤ → ℕ → ZOmega → ZOmega → Answer → Type 0

@@ -1,0 +1,7 @@
+-- `agreement::agree` meets its contract: the two ways, and the comparison of what they wrote.
+use Rattle.agreement.specs.Agree.{first_there, second_there}
+use borrow.Author.Rules.{rules}
+use Rattle.agreement.proofs.agree.Goals as goal
+
+pub alike-yes-requires : goal.alike-yes-requires
+alike-yes-requires c = record { fact_1 = search first_there; fact_2 = search second_there; }

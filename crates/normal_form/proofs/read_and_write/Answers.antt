@@ -1,0 +1,13 @@
+-- `normal_form::read_and_write` meets its contract. Assumes nothing.
+use borrow.Author.Rules.{rules}
+use Rattle.normal_form.specs.Answers.{refused_outside, readable, count_most, answered_by}
+use Rattle.normal_form.proofs.read_and_write.Goals as goal
+
+pub write-requires : goal.write-requires
+write-requires c = search (readable, count_most)
+
+pub returns-in-Outside : goal.returns-in-Outside
+returns-in-Outside c = search refused_outside
+
+pub returns-in-Word : goal.returns-in-Word
+returns-in-Word c = search answered_by

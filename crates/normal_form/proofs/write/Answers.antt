@@ -1,0 +1,20 @@
+-- `normal_form::write` meets its contract. Assumes nothing.
+use borrow.Author.Rules.{rules}
+use Rattle.normal_form.specs.Answers.{size_fits, no_room_for, syllables_room, ending_room, written_for}
+use Rattle.reading.specs.Held.{count_within}
+use Rattle.normal_form.proofs.write.Goals as goal
+
+pub overflow_add-n : goal.overflow_add-n
+overflow_add-n c = search size_fits
+
+pub returns-then-n-buf : goal.returns-then-n-buf
+returns-then-n-buf c = search no_room_for
+
+pub put_syllables-at-requires : goal.put_syllables-at-requires
+put_syllables-at-requires c = search (count_within, syllables_room)
+
+pub put_ending-requires : goal.put_ending-requires
+put_ending-requires c = search ending_room
+
+pub returns : goal.returns
+returns c = search written_for

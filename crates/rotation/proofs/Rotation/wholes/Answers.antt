@@ -1,0 +1,7 @@
+-- `Rotation::wholes` meets its contract.
+use borrow.Author.Rules.{rules}
+use Rattle.rotation.specs.Shared.{nine_p}
+use Rattle.rotation.proofs.Rotation.wholes.Goals as goal
+
+pub returns : goal.returns
+returns c = search nine_p

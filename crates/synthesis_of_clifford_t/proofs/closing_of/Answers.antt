@@ -1,0 +1,29 @@
+-- `synthesis_of_clifford_t::closing_of` meets its contract: by the residue of z, which is 0 where z is.
+use Rattle.synthesis_of_clifford_t.specs.Closes.{z_small, w_small, unit_small}
+use Rattle.synthesis_of_clifford_t.specs.Closes.{swapped_few, swapped_closes, diagonal_few, diagonal_closes}
+use borrow.Author.Rules.{rules}
+use Rattle.synthesis_of_clifford_t.proofs.closing_of.Goals as goal
+
+pub residue-requires : goal.residue-requires
+residue-requires c = search z_small
+
+pub mul_by_omega_inv_power-u-requires : goal.mul_by_omega_inv_power-u-requires
+mul_by_omega_inv_power-u-requires c = search (rules, w_small)
+
+pub power_of_omega-m-requires : goal.power_of_omega-m-requires
+power_of_omega-m-requires c = search unit_small
+
+pub closing_by-requires : goal.closing_by-requires
+closing_by-requires c = search (rules, swapped_few)
+
+pub returns-then-residue-eq0 : goal.returns-then-residue-eq0
+returns-then-residue-eq0 c = search swapped_closes
+
+pub power_of_omega-m-requires-2 : goal.power_of_omega-m-requires-2
+power_of_omega-m-requires-2 c = search z_small
+
+pub closing_by-requires-2 : goal.closing_by-requires-2
+closing_by-requires-2 c = search (rules, diagonal_few)
+
+pub returns : goal.returns
+returns c = search diagonal_closes
