@@ -1,5 +1,5 @@
 -- Lines of circuits: put together, told apart, and read in one way only. Assumes nothing.
-use Rattle.std.specs.Prelude.{◌≡◌, refl, ◌⊎◌, Bool, true, false, ◌||◌, List, [], ◌∷◌, ◌++◌, ℕ, zero, suc, ◌+◌, ◌≤◌, T, eqb, length}
+use Rattle.std.specs.Prelude.{◌≡◌, refl, ◌⊎◌, Bool, true, false, ◌||◌, List, [], ◌∷◌, ◌++◌, ℕ, zero, suc, ◌≤◌, T, eqb, length}
 use Rattle.std.proofs.Common.{sym, ◌∙◌, ap, ap₂, inl, inr, append-nil, append_assoc, arith, eq-eqb, eqb→eq, lit≤}
 use Rattle.std.proofs.Math.Facts.{or_yes}
 use Rattle.exact.specs.Meaning.Word.{Letter, byte, bytes}

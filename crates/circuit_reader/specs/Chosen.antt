@@ -1,12 +1,11 @@
 -- Which statement a line can only be, by its first two bytes, and where it stops being it; and the same of the header, by its tenth.
 -- Assumes nothing.
-use Rattle.std.specs.Prelude.{◌≡◌, refl, ◌⊎◌, Bool, true, false, not, ◌||◌, List, ◌++◌, ℕ, ◌+◌, ◌-◌, ◌<◌, ◌≤◌, T, eqb, ltb, length, take, drop, get_or}
+use Rattle.std.specs.Prelude.{◌≡◌, refl, ◌⊎◌, Bool, true, false, not, ◌||◌, List, ◌++◌, ℕ, ◌+◌, ◌<◌, ◌≤◌, T, eqb, ltb, length, take, drop, get_or}
 use Rattle.std.proofs.Common.{sym, ◌∙◌, ap, ap₂, subst, inl, inr, add-zero, arith, eqb-true, ltb-true, ltb-false, eqb→eq, lit<, length-drop, take-append-drop, get_or-drop, get_or-take, take_all}
 use Rattle.std.proofs.lemmas.Bool.{eqb-false}
 use Rattle.std.proofs.Math.Facts.{or_yes}
 use Rattle.exact.specs.Meaning.Text.{Stops}
 use Rattle.circuit_reader.specs.declared.Line.{Line}
-use Rattle.circuit_reader.specs.declared.Line.TheVariants as Line
 use Rattle.circuit.specs.Meaning.{Edition, two, three, Statement, h', s', t', x', sdg, tdg, gphase, allowed, header, Right, read_as}
 use Rattle.circuit.specs.Lines.{line_of, Each, each, line_long, number, same_number, computed}
 use Rattle.circuit.specs.Stuck.{Parts, Stuck, header_stops, IsLine}

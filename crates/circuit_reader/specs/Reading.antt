@@ -5,9 +5,7 @@ use Rattle.exact.specs.Outcomes.Enums.{Says}
 use Rattle.exact.specs.Meaning.Refusals.{statement}
 use Rattle.exact.specs.Meaning.Text.{ascii}
 use Rattle.circuit_reader.specs.declared.Walked.{Walked}
-use Rattle.circuit_reader.specs.declared.Walked.TheVariants as Walked
 use Rattle.circuit_reader.specs.declared.Line.{Line}
-use Rattle.circuit_reader.specs.declared.Line.TheVariants as Line
 use Rattle.circuit.specs.Meaning.{Edition, row, Statement, allowed, header, Right, read_as}
 use Rattle.circuit.specs.Lines.{line_of, OfCircuit}
 use Rattle.circuit.specs.Stuck.{IsLine, Stuck}

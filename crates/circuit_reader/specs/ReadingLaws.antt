@@ -10,7 +10,6 @@ use Rattle.std.proofs.Math.Dec.{T}
 use Rattle.std.proofs.Math.ListN.{length, length-append, get_or-eq_default}
 use Rattle.exact.specs.Meaning.Text.{ascii, Stops}
 use Rattle.circuit_reader.specs.declared.Line.{Line}
-use Rattle.circuit_reader.specs.declared.Line.TheVariants as Line
 use Rattle.circuit.specs.Meaning.{Edition, row, Statement, h', s', t', x', sdg, tdg, allowed, AllAllowed, header, lines, text, Right}
 use Rattle.circuit.specs.Meaning.{read_as, letters}
 use Rattle.circuit.specs.Lines.{line_of, lines_append, allowed_append, letters_append, line_long, read_few, OfCircuit}

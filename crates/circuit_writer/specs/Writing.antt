@@ -1,11 +1,10 @@
 -- What the writer's functions promise one another: a word measured, and its lines put. Assumes nothing.
-use Rattle.std.specs.Prelude.{◌≡◌, cond, List, ℕ, ◌+◌, ◌-◌, ◌<◌, ◌≤◌, eqb, ltb, length, get_or}
+use Rattle.std.specs.Prelude.{◌≡◌, cond, List, ℕ, ◌+◌, ◌<◌, ◌≤◌, eqb, ltb, length, get_or}
 use Rattle.exact.specs.Meaning.Word.{Letter, W, byte, bytes, IsLetter}
 use Rattle.exact.specs.Meaning.Limits as Limits
 use Rattle.exact.specs.Outcomes.Enums.{Says}
 use Rattle.exact.specs.Meaning.Refusals as Refusals
 use Rattle.exact.specs.Cases.Letters.{letters_of}
-use Rattle.exact.specs.Outcomes.Lent as Outcomes
 use Rattle.circuit_writer.specs.declared.Measured as Measured
 use Rattle.circuit_writer.specs.declared.Measured.TheVariants.{Outside, Word}
 use Rattle.circuit.specs.Meaning.{lines, statement_of, circuit}

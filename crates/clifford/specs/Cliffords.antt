@@ -7,7 +7,6 @@ use Rattle.exact.specs.Meaning.Word.{Letter, H, S, X, W, T'}
 use Rattle.exact.specs.Meaning.Normal.{times}
 use Rattle.exact.specs.Meaning.Clifford.{cycle}
 use Rattle.clifford.specs.declared.Axis.{Axis}
-use Rattle.clifford.specs.declared.Axis.TheVariants as Axis
 use Rattle.clifford.specs.declared.Clifford.{Clifford}
 use Rattle.clifford.specs.declared.Coset.{Coset}
 use Rattle.clifford.specs.declared.Tconj.{Tconj}

@@ -5,7 +5,6 @@ use Rattle.exact.specs.Meaning.Word.{Letter, H, S, word}
 use Rattle.exact.specs.Meaning.Clifford as meaning
 use Rattle.exact.specs.Meaning.Clifford.{Within, clifford}
 use Rattle.clifford.specs.declared.Axis.{Axis}
-use Rattle.clifford.specs.declared.Axis.TheVariants as Axis
 use Rattle.clifford.specs.declared.Clifford.{Clifford}
 use Rattle.clifford.specs.declared.Coset.{Coset}
 

@@ -9,7 +9,6 @@ use Rattle.exact.specs.Matrices.Test.{same_test}
 use Rattle.clifford.specs.declared.Clifford.{Clifford}
 use Rattle.clifford.specs.declared.Conj2.{Conj2}
 use Rattle.clifford.specs.declared.Passing.{Passing}
-use Rattle.clifford.specs.declared.Passing.TheVariants as Passing
 use Rattle.clifford.specs.Meaning.{letters, Ranged}
 use Rattle.clifford.specs.Words.{◌≈◌, by_test, by_refl, by_eq, by_sym, ◌⨾◌, join, under, before, lessened, exes, esses, doubleyous, pass}
 use Rattle.clifford.specs.Tables.{quadruple, at, ranged_test, ranged_test_is, conj2, Row2, conj2_right}

@@ -7,7 +7,6 @@ use Rattle.exact.specs.Meaning.Normal.{times}
 use Rattle.exact.specs.Meaning.Clifford.{cycle}
 use Rattle.exact.specs.Matrices.Test.{same_test}
 use Rattle.clifford.specs.declared.Axis.{Axis}
-use Rattle.clifford.specs.declared.Axis.TheVariants as Axis
 use Rattle.clifford.specs.declared.Clifford.{Clifford}
 use Rattle.clifford.specs.declared.Conj2.{Conj2}
 use Rattle.clifford.specs.declared.Tconj.{Tconj}

@@ -7,7 +7,6 @@ use Rattle.exact.specs.Matrices.Same.{Same-sym, Same-trans}
 use Rattle.exact.specs.Matrices.Words.{strike_word}
 use Rattle.exact.specs.Unique.Tails.{clifford_unique}
 use Rattle.clifford.specs.declared.Axis.{Axis}
-use Rattle.clifford.specs.declared.Axis.TheVariants as Axis
 use Rattle.clifford.specs.declared.Clifford.{Clifford}
 use Rattle.clifford.specs.declared.Coset.{Coset}
 use Rattle.clifford.specs.Meaning.{quad, letters, axis_number, axis_word, Ranged, Product, Inverse, Split}

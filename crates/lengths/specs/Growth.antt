@@ -5,7 +5,6 @@ use Rattle.std.proofs.Common.{sym, ◌∙◌, ap, arith, leb→le}
 use Rattle.std.proofs.Math.Facts.{and_yes}
 use Rattle.exact.specs.Meaning.Word.{Letter, I, H, S, X, W, T'}
 use Rattle.clifford.specs.declared.Axis.{Axis}
-use Rattle.clifford.specs.declared.Axis.TheVariants as Axis
 use Rattle.clifford.specs.declared.Clifford.{Clifford}
 use Rattle.clifford.specs.Meaning.{Ranged}
 use Rattle.clifford.specs.Tables.{quadruple, all, at, all3, at3}

@@ -1,7 +1,7 @@
 -- The longest normal words: 16 + 24·j letters have a normal word of at most 29 + 32·j letters and a phase-free one of at most 24 + 32·j. Assumes
 -- nothing.
 use Rattle.std.specs.Prelude.{◌≡◌, refl, Bool, true, false, ◌&&◌, List, [], ◌∷◌, ℕ, zero, suc, ◌+◌, ◌*◌, ◌≤◌, T, leb, eqb, length}
-use Rattle.std.proofs.Common.{◌∙◌, ap, arith, leb→le, eqb→eq, length-append}
+use Rattle.std.proofs.Common.{ap, arith, leb→le, eqb→eq, length-append}
 use Rattle.std.proofs.Math.Facts.{and_yes}
 use Rattle.exact.specs.Meaning.Matrix.{Matrix}
 use Rattle.exact.specs.Meaning.Word.{Letter, I, H, S, X, W, T', word}
@@ -10,7 +10,6 @@ use Rattle.exact.specs.Meaning.Limits.{longest, normal_enough, phase_free_enough
 use Rattle.exact.specs.Unique.PhaseFree.{phase_free_once}
 use Rattle.exact.specs.Outcomes.Places.{one_normal}
 use Rattle.clifford.specs.declared.Axis.{Axis}
-use Rattle.clifford.specs.declared.Axis.TheVariants as Axis
 use Rattle.clifford.specs.declared.Clifford.{Clifford}
 use Rattle.clifford.specs.Meaning.{Ranged}
 use Rattle.clifford.specs.Cliffords.{mul_c, inv_c, split_c, tconj_c}

@@ -11,7 +11,6 @@ use Rattle.exact.specs.Cases.Letters.{letters_of, bytes_length, Inside, bytes_ba
 use Rattle.exact.specs.Unique.Tails.{tees_append}
 use Rattle.exact.specs.Outcomes.Ladder.{Only}
 use Rattle.reading.specs.declared.Read.{Read}
-use Rattle.reading.specs.declared.Read.TheVariants as Read
 use Rattle.reading.specs.declared.Reading.{Reading}
 use Rattle.reading.specs.Readings.{State, prefix, prefix_tees, start, run, shape, normal, phase_free, normal_of}
 use Rattle.reading.specs.Held.{Holds, Readable, count_is, count_few, bytes_most}

@@ -11,7 +11,6 @@ use Rattle.exact.specs.Cases.Letters.{bytes_length}
 use Rattle.exact.specs.Outcomes.Lent as Lent
 use Rattle.qasm.specs.declared.Written.{Written}
 use Rattle.circuit_reader.specs.declared.Walked.{Walked}
-use Rattle.circuit_reader.specs.declared.Walked.TheVariants as Walked
 use Rattle.circuit.specs.Meaning.{Right, letters, Reads}
 use Rattle.qasm.specs.Meaning.{refused, accepted, ReadOutcome}
 use Rattle.circuit.specs.Lines.{one_reading, OfCircuit}

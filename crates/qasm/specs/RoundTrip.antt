@@ -14,7 +14,7 @@ use Rattle.exact.specs.Cases.Letters.{bytes_length, bytes_inj}
 use Rattle.exact.specs.Outcomes.Ladder.{Passed, answered}
 use Rattle.exact.specs.Outcomes.Lent.{handed_same, bytes_same}
 use Rattle.qasm.specs.declared.Written.{Written}
-use Rattle.circuit.specs.Meaning.{Edition, two, three, row, Statement, h', s', t', x', allowed, AllAllowed, text, Right, letters, circuit}
+use Rattle.circuit.specs.Meaning.{Edition, two, three, row, Statement, h', s', t', x', allowed, AllAllowed, text, Right, circuit}
 use Rattle.circuit.specs.Meaning.{less_i, matrix, Reads}
 use Rattle.qasm.specs.Meaning.{refused, accepted, Circuits, write_refusals, WriteOutcome, read_refusals, ReadOutcome}
 use Rattle.circuit.specs.Lines.{allowed_append, each, computed, one_reading}

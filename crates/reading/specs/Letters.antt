@@ -8,7 +8,6 @@ use Rattle.exact.specs.Outcomes.Enums.{Says}
 use Rattle.exact.specs.Meaning.Refusals.{letter}
 use Rattle.exact.specs.Cases.Letters.{letter_of, letters_of, letter_back, is_letter, Inside}
 use Rattle.reading.specs.declared.Read.{Read}
-use Rattle.reading.specs.declared.Read.TheVariants as Read
 use Rattle.reading.specs.Readings.{start, run}
 use Rattle.reading.specs.Steps.{letter_number, letter_at, letter_at_is, number_few, number_of}
 use Rattle.reading.specs.Held.{Holds}

@@ -5,7 +5,6 @@ use Rattle.std.proofs.Math.Facts.{and_yes}
 use Rattle.exact.specs.Meaning.Word.{Letter, I, H, S, X, W, T'}
 use Rattle.exact.specs.Meaning.Normal.{Syllable, HT, SHT}
 use Rattle.clifford.specs.declared.Axis.{Axis}
-use Rattle.clifford.specs.declared.Axis.TheVariants as Axis
 use Rattle.clifford.specs.declared.Clifford.{Clifford}
 use Rattle.clifford.specs.Meaning.{letters, Ranged, axis_number}
 use Rattle.clifford.specs.Unique.{axis_at_lem, one_Clifford}

@@ -11,7 +11,6 @@ use Rattle.exact.specs.Matrices.Same.{Same-of}
 use Rattle.exact.specs.Unique.Normal.{spell_word}
 use Rattle.exact.specs.Unique.Tails.{tees_append}
 use Rattle.clifford.specs.declared.Axis.{Axis}
-use Rattle.clifford.specs.declared.Axis.TheVariants as Axis
 use Rattle.clifford.specs.declared.Clifford.{Clifford}
 use Rattle.clifford.specs.declared.Coset.{Coset}
 use Rattle.clifford.specs.Meaning.{letters, axis_word, axis_number, Ranged, Split}

@@ -7,7 +7,6 @@ use Rattle.std.specs.Int.{w8}
 use Rattle.exact.specs.Meaning.Word.{Letter, I, H, S, X, W, T', byte, IsLetter}
 use Rattle.exact.specs.Cases.Letters.{letter_of, is_letter}
 use Rattle.clifford.specs.declared.Axis.{Axis}
-use Rattle.clifford.specs.declared.Axis.TheVariants as Axis
 use Rattle.clifford.specs.declared.Clifford.{Clifford}
 use Rattle.clifford.specs.declared.Coset.{Coset}
 use Rattle.reading.specs.declared.steps.Step.{Step}

@@ -5,7 +5,6 @@ use Rattle.exact.specs.Meaning.Word.{Letter, H, S, T'}
 use Rattle.exact.specs.Meaning.Normal as normal
 use Rattle.clifford.specs.declared.Clifford.{Clifford}
 use Rattle.reading.specs.declared.Syllable.{Syllable}
-use Rattle.reading.specs.declared.Syllable.TheVariants as Syllable
 use Rattle.clifford.specs.Cliffords.{clifford_i, clifford_s, clifford_HS, clifford_SHS}
 use Rattle.reading.specs.Readings.{syllable}
 

@@ -1,12 +1,11 @@
 -- A reading whole: syllables and a Clifford in the program's array, and how many bytes the text of it all takes. Assumes nothing.
-use Rattle.std.specs.Prelude.{◌≡◌, refl, Bool, true, false, List, [], ◌∷◌, ℕ, zero, suc, ◌+◌, ◌≤◌, ◌<◌, eqb, length}
+use Rattle.std.specs.Prelude.{◌≡◌, refl, Bool, true, false, List, ℕ, zero, suc, ◌+◌, ◌≤◌, ◌<◌, eqb, length}
 use Rattle.std.proofs.Common.{sym, ◌∙◌, ap, ap₂, arith, eqb-true}
 use Rattle.std.proofs.lemmas.Bool.{false≢true, eqb-false}
 use Rattle.exact.specs.Meaning.Outcome.{Decides}
 use Rattle.exact.specs.Meaning.Word.{Letter, I}
 use Rattle.clifford.specs.declared.Clifford.{Clifford}
 use Rattle.reading.specs.declared.Added.{Added}
-use Rattle.reading.specs.declared.Added.TheVariants as Added
 use Rattle.reading.specs.declared.Text.{Text}
 use Rattle.reading.specs.declared.Reading.{Reading}
 use Rattle.reading.specs.declared.steps.Step.{Step}

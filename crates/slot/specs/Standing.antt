@@ -9,7 +9,6 @@ use Rattle.exact.specs.Meaning.Outcome.{Decides}
 use Rattle.exact.specs.Meaning.Limits.{longest}
 use Rattle.clifford.specs.declared.Clifford.{Clifford}
 use Rattle.clifford.specs.declared.Axis.{Axis}
-use Rattle.clifford.specs.declared.Axis.TheVariants as Axis
 use Rattle.clifford.specs.Meaning.{Ranged, axis_number}
 use Rattle.clifford.specs.Cliffords.{split_c, split_right}
 use Rattle.clifford.specs.Tables.{quadruple}
@@ -23,7 +22,6 @@ use Rattle.reading.specs.Held as Held
 use Rattle.reading.specs.Held.{Holds, longer, count_is, bytes_few}
 use Rattle.reading.specs.Texts.{whole_of, Few, HoldsText, whole_holds}
 use Rattle.slot.specs.declared.told.Told.{Told}
-use Rattle.slot.specs.declared.told.Told.TheVariants as Told
 use Rattle.slot.specs.Meaning.{Slot, slot_of, code, codes_of, led, codes, Shows, Given}
 use Rattle.slot.specs.Shown.{Coded, rest_of, state_size, state_shown, few_shown, shown_coded, shown_rest}
 use Rattle.slot.specs.Letters.{given_shown, text_gives}

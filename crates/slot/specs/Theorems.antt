@@ -1,6 +1,6 @@
 -- What the outcomes say besides: a record can be told from itself alone; its text is what job 3 writes for the letters that give it, and the length
 -- that is answered is the record's own number; no record is refused 18 before it has 4,096 syllables. Assumes nothing.
-use Rattle.std.specs.Prelude.{◌≡◌, refl, Bool, true, false, List, [], ◌∷◌, ◌++◌, ℕ, ◌+◌, ◌≤◌, eqb, length, take, get_or}
+use Rattle.std.specs.Prelude.{◌≡◌, refl, Bool, true, false, List, [], ◌∷◌, ◌++◌, ℕ, ◌≤◌, eqb, length, take, get_or}
 use Rattle.std.proofs.Common.{sym, ◌∙◌, ap, subst, arith, eqb-true}
 use Rattle.std.proofs.lemmas.Bool.{eqb-false}
 use Rattle.exact.specs.Meaning.Word.{Letter, word, byte, bytes}
@@ -17,7 +17,7 @@ use Rattle.normal_form.specs.declared.Written.{Written}
 use Rattle.normal_form.specs.Meaning.{Normalises, NormaliseOutcome}
 use Rattle.normal_form.specs.Again.{answer_of_lem, counted, bytes_written}
 use Rattle.slot.specs.declared.Answer.{Answer}
-use Rattle.slot.specs.Meaning.{Slot, Shows, codes, GivenBy, Given, slot, refused, long, Measured, LengthOutcome, Left, left, Extended, Overfull}
+use Rattle.slot.specs.Meaning.{Slot, Shows, codes, GivenBy, Given, slot, refused, Measured, LengthOutcome, Left, left, Extended, Overfull}
 use Rattle.slot.specs.Meaning.{add_refusals, AddOutcome}
 use Rattle.slot.specs.Shown.{one_shape, state_size, shown_rest, few_shown}
 use Rattle.slot.specs.Letters.{given_shown, given_more, shown_adds, over_form}

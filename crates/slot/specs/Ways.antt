@@ -1,7 +1,7 @@
 -- The ways out of the two calls: a lemma for each, over plain values. Assumes nothing.
 use Rattle.std.specs.Prelude.{◌≡◌, refl, List, [], ◌∷◌, ℕ, ◌/◌, ◌%◌, ◌≤◌, ◌<◌, length}
 use Rattle.std.proofs.Common.{◌∙◌, ap, ap₂, subst, arith}
-use Rattle.exact.specs.Meaning.Word.{Letter, word, byte, IsLetter}
+use Rattle.exact.specs.Meaning.Word.{Letter, byte, IsLetter}
 use Rattle.exact.specs.Meaning.Normal.{Shape, spell, Normal}
 use Rattle.exact.specs.Meaning.Limits as Limits
 use Rattle.exact.specs.Meaning.Limits.{no_refusal}
@@ -11,7 +11,6 @@ use Rattle.exact.specs.Matrices.Same.{Same-of}
 use Rattle.clifford.specs.declared.Clifford.{Clifford}
 use Rattle.clifford.specs.Meaning.{Ranged}
 use Rattle.reading.specs.declared.Added.{Added}
-use Rattle.reading.specs.declared.Added.TheVariants as Added
 use Rattle.reading.specs.declared.Text.{Text}
 use Rattle.reading.specs.Readings.{State, read, read_ranged, shape_of, size_of, text_size, fits}
 use Rattle.reading.specs.Steps.{tail_of, letter_at, number_of}
@@ -21,7 +20,6 @@ use Rattle.reading.specs.Letters.{numbered_in, numbered_at, numbered_out}
 use Rattle.reading.specs.Texts.{HoldsText, ReadableText, AddsLetter}
 use Rattle.slot.specs.declared.Answer.{Answer}
 use Rattle.slot.specs.declared.told.Told.{Told}
-use Rattle.slot.specs.declared.told.Told.TheVariants as Told
 use Rattle.slot.specs.Meaning.{Slot, slot_of, codes, Shows, Overfull, full, refused, LengthOutcome, Left, left, Extended, AddOutcome}
 use Rattle.slot.specs.Shown.{rest_of, state_size, state_shown}
 use Rattle.slot.specs.Letters.{read_next, over_form, shown_adds, given_more, text_gives}

@@ -48,13 +48,7 @@ fn put_rest(r: Text, rest: &mut [u64; 6])
 }
 
 // A letter, by its number, more in a right record.
-fn add_right(
-    table: &[u8],
-    number: u8,
-    r: Text,
-    syllables: &mut [u8],
-    rest: &mut [u64; 6],
-) -> Answer
+fn add_right(table: &[u8], number: u8, r: Text, syllables: &mut [u8], rest: &mut [u64; 6]) -> Answer
     requires fact_1 { Right table.now }
     requires fact_2 { number ≤ 5 }
     requires fact_3 { length syllables.old ≡ 4096 }

@@ -9,7 +9,7 @@ ghost use Rattle.slot.specs.Standing.{stack_in, Tells};
 
 use exact::both;
 use reading::steps::Tail;
-use reading::{Text, Reading};
+use reading::{Reading, Text};
 
 // What is read from a record that letters give.
 #[derive(Clone, Copy)]

@@ -8,7 +8,6 @@ use Rattle.exact.specs.Meaning.Triple.{Triple}
 use Rattle.exact.specs.Matrices.Same.{Same-sym}
 use Rattle.exact.specs.Unique.Tails.{tees_append, or_i_tail_tees}
 use Rattle.clifford.specs.declared.Axis.{Axis}
-use Rattle.clifford.specs.declared.Axis.TheVariants as Axis
 use Rattle.clifford.specs.declared.Clifford.{Clifford}
 use Rattle.clifford.specs.Cliffords.{mul_c, tconj_c, split_c}
 use Rattle.reading.specs.Readings.{State, start, tee, read, run, run_append, prefix, prefix_tees, size_of, tail_at, shape, spelled, normal, normal_of}

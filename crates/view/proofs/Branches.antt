@@ -11,7 +11,7 @@ use lib.IntN.{ℤ, pos, negsuc, nat_abs, ◌+ℤ◌}
 use lib.Ieee.{Float}
 use mir.Syntax.{w64}
 use mir.Val.{SFits}
-use Rattle.view.specs.Meaning.Surd.{Surd, even, over}
+use Rattle.view.specs.Meaning.Surd.{Surd, over}
 use Rattle.view.specs.Meaning.Near.{Shows}
 use Rattle.view.specs.Size.{Fit}
 use Rattle.exact.specs.Whole.Machine as Machine

@@ -1,6 +1,6 @@
 -- The definitions at some numbers: the order against root two at both signs, where 7 < 5·root two < 8; and the parts of omega, and of 1 over
 -- root two. Assumes nothing.
-use Rattle.std.specs.Prelude.{◌≡◌, refl, ◌≤◌, pos, negsuc}
+use Rattle.std.specs.Prelude.{◌≡◌, refl, pos, negsuc}
 use Rattle.std.proofs.Common.{not-le_of_lt, lit≤, lit<}
 use Rattle.exact.specs.Meaning.Number.{ints, omega', const_q}
 use Rattle.view.specs.Meaning.Surd.{real, imaginary}

@@ -1,7 +1,7 @@
 -- The parts of an entry are what `Surd` says, shown in the ring itself: x and its conjugate x* sum to twice the real part of x, and their
 -- difference is twice i times its imaginary part, i being omega². So that of x over root two to the k is A + B·root two over 2 to the s
 -- means: 2^s·(x + x*) = 2·root two^k·(A + B·root two), and 2^s·(x - x*) = 2·i·root two^k·(A + B·root two). Assumes nothing.
-use Rattle.std.specs.Prelude.{◌≡◌, Bool, true, false, not, cond, [], ◌∷◌, ℕ, suc, ◌+◌, ◌*◌, ◌/◌, ◌%◌, ◌^◌, T, eqb, ℤ, pos, ◌+ℤ◌, ◌-ℤ◌, ◌*ℤ◌}
+use Rattle.std.specs.Prelude.{◌≡◌, Bool, true, false, not, cond, [], ◌∷◌, ℕ, suc, ◌+◌, ◌/◌, ◌%◌, ◌^◌, T, eqb, ℤ, pos, ◌+ℤ◌, ◌-ℤ◌, ◌*ℤ◌}
 use Rattle.std.proofs.Common.{sym, ◌∙◌, ap, ap₂, subst, arith, eqb→eq, pow-add}
 use Rattle.exact.specs.Meaning.Number.{Quad, Ω, ints, omegas, quads, power, add_q, const_q, mul_q, neg_q, conj_q, omega', omega^, root2, root2^}
 use Rattle.exact.specs.Algebra.Ring.{ints_laws}

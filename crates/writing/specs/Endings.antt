@@ -6,7 +6,6 @@ use Rattle.exact.specs.Meaning.Word.{Letter, I, H, S, X, W, byte, bytes, tees}
 use Rattle.exact.specs.Meaning.Normal.{Tail, times, tail_word, or_i, spell}
 use Rattle.exact.specs.Unique.Tails.{tees_append}
 use Rattle.clifford.specs.declared.Axis.{Axis}
-use Rattle.clifford.specs.declared.Axis.TheVariants as Axis
 use Rattle.clifford.specs.declared.Clifford.{Clifford}
 use Rattle.clifford.specs.declared.Coset.{Coset}
 use Rattle.writing.specs.declared.Ending.{Ending}

@@ -3,7 +3,6 @@ use Rattle.std.specs.Prelude.{◌≡◌, List, [], ◌∷◌, ℕ, ◌+◌, ◌-
 use Rattle.std.proofs.Common.{sym, ◌∙◌, ap, subst, add-zero, arith, length-set, set-set}
 use Rattle.exact.specs.Meaning.Word.{bytes}
 use Rattle.reading.specs.declared.Syllable.{Syllable}
-use Rattle.reading.specs.declared.Syllable.TheVariants as Syllable
 use Rattle.reading.specs.Syllables.{syllable_number, syllable_word, syllable_size}
 use Rattle.writing.specs.Runs.{past_of}
 use Rattle.writing.specs.Put.{Put, put_none, put_one, put_more}

@@ -2,7 +2,6 @@
 use mathlib.Core.Path.{sym}
 use lib.Seq.{length-take-le}
 use Rattle.agreement.specs.Ways.{first_refused, second_refused, bytes_decide}
-use borrow.Author.Rules.{rules}
 use Rattle.agreement.proofs.alike.Goals as goal
 
 pub returns-then-a-ne-ACCEPTED : goal.returns-then-a-ne-ACCEPTED

@@ -1,5 +1,4 @@
 -- `put_esses` meets its contract. Assumes nothing.
-use borrow.Author.Rules.{rules}
 use Rattle.circuit_letters.specs.LettersLaws.{three_esses}
 use Rattle.circuit_letters.proofs.put_esses.Goals as goal
 

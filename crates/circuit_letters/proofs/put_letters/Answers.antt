@@ -1,8 +1,6 @@
 -- `put_letters` meets its contract. Assumes nothing.
-use Prim.Native.Nat.{◌-◌}
 use borrow.Author.Rules.{rules}
-use lib.ListN.{length}
-use Rattle.circuit_letters.specs.LettersLaws.{Putting, putting_none, putting_stands, putting_less, putting_more, putting_length, putting_all}
+use Rattle.circuit_letters.specs.LettersLaws.{putting_none, putting_stands, putting_less, putting_more, putting_length, putting_all}
 use Rattle.circuit_letters.proofs.put_letters.Goals as goal
 
 pub loop-at-init : goal.loop-at-init

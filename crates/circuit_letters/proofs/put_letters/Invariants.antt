@@ -1,8 +1,7 @@
 -- What the loops of `circuit_letters::put_letters` keep.
 use Prim.Native.Nat.{◌-◌}
-use borrow.Author.Rules.{rules}
 use lib.ListN.{length}
-use Rattle.circuit_letters.specs.LettersLaws.{Putting, putting_none, putting_stands, putting_less, putting_more, putting_length, putting_all}
+use Rattle.circuit_letters.specs.LettersLaws.{Putting}
 use Rattle.circuit_letters.proofs.put_letters.Given as goal
 
 abbrev pub invariant-loop-at : goal.invariant-loop-at

@@ -1,8 +1,7 @@
 -- `along` meets its contract. Assumes nothing.
-use Prim.Native.Nat.{◌-◌}
 use native.Mathlib.Omega.{arith}
 use borrow.Author.Rules.{rules}
-use Rattle.circuit_reader.specs.ReadingLaws.{Going, going_none, going_fits, going_read, going_word, going_differ, going_more, going_all}
+use Rattle.circuit_reader.specs.ReadingLaws.{going_none, going_fits, going_read, going_word, going_differ, going_more, going_all}
 use Rattle.circuit_reader.proofs.along.Goals as goal
 
 pub overflow_sub-text : goal.overflow_sub-text

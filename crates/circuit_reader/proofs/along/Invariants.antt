@@ -1,8 +1,6 @@
 -- What the loops of `circuit_reader::along` keep.
 use Prim.Native.Nat.{◌-◌}
-use native.Mathlib.Omega.{arith}
-use borrow.Author.Rules.{rules}
-use Rattle.circuit_reader.specs.ReadingLaws.{Going, going_none, going_fits, going_read, going_word, going_differ, going_more, going_all}
+use Rattle.circuit_reader.specs.ReadingLaws.{Going}
 use Rattle.circuit_reader.proofs.along.Given as goal
 
 abbrev pub invariant-loop-k : goal.invariant-loop-k

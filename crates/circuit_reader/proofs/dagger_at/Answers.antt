@@ -1,6 +1,5 @@
 -- `dagger_at` meets its contract. Assumes nothing.
 use native.Mathlib.Omega.{arith}
-use borrow.Author.Rules.{rules}
 use Rattle.circuit_reader.specs.ReadingLaws.{dagger_none, dagger_s, dagger_t}
 use Rattle.circuit_reader.proofs.dagger_at.Goals as goal
 

@@ -1,6 +1,5 @@
 -- `line_at` meets its contract. Assumes nothing.
 use native.Mathlib.Omega.{arith}
-use borrow.Author.Rules.{rules}
 use Rattle.circuit_reader.specs.ReadingLaws.{gate_at, dagger_taken}
 use Rattle.circuit_reader.proofs.line_at.Goals as goal
 

@@ -1,8 +1,6 @@
 -- `lines_from` meets its contract. Assumes nothing.
-use Prim.Native.Nat.{◌-◌}
 use borrow.Author.Rules.{rules}
-use lib.ListN.{length}
-use Rattle.circuit_reader.specs.ReadingLaws.{Walking, walking_none, walking_fits, walking_less, walking_more, walking_stops, walked}
+use Rattle.circuit_reader.specs.ReadingLaws.{walking_none, walking_fits, walking_less, walking_more, walking_stops, walked}
 use Rattle.circuit_reader.proofs.lines_from.Goals as goal
 
 pub loop-at-init : goal.loop-at-init

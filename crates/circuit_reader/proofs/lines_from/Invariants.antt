@@ -1,8 +1,7 @@
 -- What the loops of `circuit_reader::lines_from` keep.
 use Prim.Native.Nat.{◌-◌}
-use borrow.Author.Rules.{rules}
 use lib.ListN.{length}
-use Rattle.circuit_reader.specs.ReadingLaws.{Walking, walking_none, walking_fits, walking_less, walking_more, walking_stops, walked}
+use Rattle.circuit_reader.specs.ReadingLaws.{Walking}
 use Rattle.circuit_reader.proofs.lines_from.Given as goal
 
 abbrev pub invariant-loop-at : goal.invariant-loop-at

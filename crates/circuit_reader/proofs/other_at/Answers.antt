@@ -1,6 +1,5 @@
 -- `other_at` meets its contract, a law for each statement that the first two bytes tell. Assumes nothing.
 use native.Mathlib.Omega.{arith}
-use borrow.Author.Rules.{rules}
 use Rattle.circuit_reader.specs.Chosen.{line_h, line_x, line_s, line_t, line_sdg, line_tdg, line_phase, line_none, line_no_phase}
 use Rattle.circuit_reader.proofs.other_at.Goals as goal
 

@@ -1,9 +1,6 @@
 -- `same_at` meets its contract. Assumes nothing.
-use Prim.Native.Nat.{◌-◌}
 use native.Mathlib.Omega.{arith}
-use borrow.Author.Rules.{rules}
-use lib.ListN.{length}
-use Rattle.circuit_reader.specs.ReadingLaws.{Comparing, comparing_none, comparing_more, compared}
+use Rattle.circuit_reader.specs.ReadingLaws.{comparing_none, comparing_more, compared}
 use Rattle.circuit_reader.proofs.same_at.Goals as goal
 
 pub loop-k-init : goal.loop-k-init

@@ -1,9 +1,7 @@
 -- What the loops of `circuit_reader::same_at` keep.
 use Prim.Native.Nat.{◌-◌}
-use native.Mathlib.Omega.{arith}
-use borrow.Author.Rules.{rules}
 use lib.ListN.{length}
-use Rattle.circuit_reader.specs.ReadingLaws.{Comparing, comparing_none, comparing_more, compared}
+use Rattle.circuit_reader.specs.ReadingLaws.{Comparing}
 use Rattle.circuit_reader.proofs.same_at.Given as goal
 
 abbrev pub invariant-loop-k : goal.invariant-loop-k

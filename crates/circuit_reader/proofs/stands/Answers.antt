@@ -1,5 +1,4 @@
 -- `stands` meets its contract. Assumes nothing.
-use borrow.Author.Rules.{rules}
 use Rattle.circuit_reader.specs.ReadingLaws.{beyond_end}
 use Rattle.circuit_reader.proofs.stands.Goals as goal
 

@@ -1,6 +1,5 @@
 -- `tail_at` meets its contract. Assumes nothing.
 use native.Mathlib.Omega.{arith}
-use borrow.Author.Rules.{rules}
 use Rattle.circuit_reader.specs.ReadingLaws.{tail_none, tail_there}
 use Rattle.circuit_reader.proofs.tail_at.Goals as goal
 

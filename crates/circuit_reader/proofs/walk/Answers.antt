@@ -1,5 +1,4 @@
 -- `walk` meets its contract. Assumes nothing.
-use borrow.Author.Rules.{rules}
 use Rattle.circuit_reader.specs.Chosen.{heading_two, heading_three}
 use Rattle.circuit_reader.proofs.walk.Goals as goal
 

@@ -1,5 +1,4 @@
 -- `walk_by` meets its contract. Assumes nothing.
-use borrow.Author.Rules.{rules}
 use Rattle.circuit_reader.specs.Chosen.{heading_same, heading_stops, heading_along}
 use Rattle.circuit_reader.proofs.walk_by.Goals as goal
 

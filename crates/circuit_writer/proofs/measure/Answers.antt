@@ -1,9 +1,7 @@
 -- `measure` meets its contract. Assumes nothing.
-use Prim.Native.Nat.{◌-◌}
 use native.Mathlib.Omega.{arith}
 use borrow.Author.Rules.{rules}
-use lib.ListN.{length}
-use Rattle.circuit_writer.specs.WritingLaws.{Measuring, measuring_none, measuring_fits, measuring_phase, measuring_more, measured, outside_at}
+use Rattle.circuit_writer.specs.WritingLaws.{measuring_none, measuring_fits, measuring_phase, measuring_more, measured, outside_at}
 use Rattle.circuit_writer.proofs.measure.Goals as goal
 
 pub loop-i-init : goal.loop-i-init
@@ -16,7 +14,7 @@ pub overflow_add-lines : goal.overflow_add-lines
 overflow_add-lines c = search measuring_fits
 
 pub past-phase-requires : goal.past-phase-requires
-past-phase-requires c = record { fact_1 = search measuring_phase; fact_2 = omega arith; }
+past-phase-requires c = record { fact_1 = search measuring_phase; fact_2 = omega arith }
 
 pub overflow_add-i : goal.overflow_add-i
 overflow_add-i c = omega arith

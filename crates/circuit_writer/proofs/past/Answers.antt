@@ -1,5 +1,4 @@
 -- `past` meets its contract. Assumes nothing.
-use borrow.Author.Rules.{rules}
 use Rattle.circuit_writer.specs.WritingLaws.{past_there, past_here, past_behind}
 use Rattle.circuit_writer.proofs.past.Goals as goal
 

@@ -1,6 +1,5 @@
 -- `put_gate` meets its contract. Assumes nothing.
 use native.Mathlib.Omega.{arith}
-use borrow.Author.Rules.{rules}
 use lib.ListN.{length-set}
 use Rattle.circuit_writer.specs.WritingLaws.{gate_put}
 use Rattle.circuit_writer.proofs.put_gate.Goals as goal

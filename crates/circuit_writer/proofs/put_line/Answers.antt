@@ -1,5 +1,4 @@
 -- `put_line` meets its contract, a law for each kind of letter. Assumes nothing.
-use borrow.Author.Rules.{rules}
 use Rattle.circuit_writer.specs.WritingLaws.{line_I, room_W, line_W, gate_fits, room_gate, line_gate}
 use Rattle.circuit_writer.proofs.put_line.Goals as goal
 

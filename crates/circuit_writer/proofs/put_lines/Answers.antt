@@ -3,7 +3,7 @@ use Prim.Native.Nat.{◌-◌}
 use native.Mathlib.Omega.{arith}
 use borrow.Author.Rules.{rules}
 use Rattle.lent.specs.Written.{written_length}
-use Rattle.circuit_writer.specs.WritingLaws.{Lining, lining_none, lining_letter, lining_room, lining_more, lined}
+use Rattle.circuit_writer.specs.WritingLaws.{lining_none, lining_letter, lining_room, lining_more, lined}
 use Rattle.circuit_writer.proofs.put_lines.Goals as goal
 
 pub loop-i-init : goal.loop-i-init
@@ -18,7 +18,7 @@ bounds-word-i c = omega arith
 pub put_line-at-requires : goal.put_line-at-requires
 put_line-at-requires c =
     let l = c.loop-i in
-    record { fact_1 = lining_letter l.invariant (l.i - 1) (omega arith); fact_2 = lining_room l.invariant (l.i - 1) (omega arith); }
+    record { fact_1 = lining_letter l.invariant (l.i - 1) (omega arith); fact_2 = lining_room l.invariant (l.i - 1) (omega arith) }
 
 pub loop-i-smaller : goal.loop-i-smaller
 loop-i-smaller c = omega arith

@@ -1,5 +1,4 @@
 -- `clifford::cinv_row` meets its contract. Assumes nothing.
-use borrow.Author.Rules.{rules}
 use Rattle.clifford.specs.Tables.{cinv_row}
 use Rattle.clifford.proofs.cinv_row.Goals as goal
 

@@ -1,5 +1,4 @@
 -- `clifford::clifford_inverse` meets its contract. Assumes nothing.
-use borrow.Author.Rules.{rules}
 use Rattle.clifford.specs.Cliffords.{inverse_job}
 use Rattle.clifford.proofs.clifford_inverse.Goals as goal
 

@@ -1,5 +1,4 @@
 -- `clifford::clifford_product` meets its contract. Assumes nothing.
-use borrow.Author.Rules.{rules}
 use Rattle.clifford.specs.Cliffords.{product_job}
 use Rattle.clifford.proofs.clifford_product.Goals as goal
 

@@ -1,5 +1,4 @@
 -- `clifford::clifford_split` meets its contract. Assumes nothing.
-use borrow.Author.Rules.{rules}
 use Rattle.clifford.specs.Cliffords.{split_job}
 use Rattle.clifford.proofs.clifford_split.Goals as goal
 

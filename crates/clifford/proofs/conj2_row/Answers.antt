@@ -1,5 +1,4 @@
 -- `clifford::conj2_row` meets its contract. Assumes nothing.
-use borrow.Author.Rules.{rules}
 use Rattle.clifford.specs.Tables.{conj2_row}
 use Rattle.clifford.proofs.conj2_row.Goals as goal
 

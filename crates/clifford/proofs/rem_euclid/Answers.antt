@@ -1,6 +1,5 @@
 -- `clifford::rem_euclid` meets its contract. Assumes nothing.
 use native.Mathlib.Omega.{arith}
-use borrow.Author.Rules.{rules}
 use Rattle.clifford.specs.Remainder.{y_fits, y_cast, y_few, y_modulo, x_cast, x_few, x_modulo}
 use Rattle.clifford.proofs.rem_euclid.Goals as goal
 

@@ -1,5 +1,4 @@
 -- `clifford::tconj_row` meets its contract. Assumes nothing.
-use borrow.Author.Rules.{rules}
 use Rattle.clifford.specs.Tables.{tconj_row}
 use Rattle.clifford.proofs.tconj_row.Goals as goal
 

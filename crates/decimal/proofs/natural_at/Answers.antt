@@ -1,10 +1,7 @@
 -- `natural_at` meets its contract.
 -- The loop's invariant: the bytes from `at` to `i` are the digits of `value`, which is at most `most`. Assumes nothing.
-use borrow.Author.Rules.{rules}
 use native.Mathlib.Omega.{arith}
-use Prim.Native.Nat.{◌-◌}
-use lib.ListN.{length}
-use Rattle.decimal.specs.ReadLaws.{Reading, reading_first, reading_more, reading_found, reading_stop, reading_end}
+use Rattle.decimal.specs.ReadLaws.{reading_first, reading_more, reading_found, reading_stop, reading_end}
 use Rattle.decimal.specs.ReadLaws.{natural_past, natural_first}
 use Rattle.decimal.proofs.natural_at.Goals as goal
 

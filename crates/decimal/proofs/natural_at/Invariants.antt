@@ -1,10 +1,7 @@
 -- What the loops of `decimal::natural_at` keep.
-use borrow.Author.Rules.{rules}
-use native.Mathlib.Omega.{arith}
 use Prim.Native.Nat.{◌-◌}
 use lib.ListN.{length}
-use Rattle.decimal.specs.ReadLaws.{Reading, reading_first, reading_more, reading_found, reading_stop, reading_end}
-use Rattle.decimal.specs.ReadLaws.{natural_past, natural_first}
+use Rattle.decimal.specs.ReadLaws.{Reading}
 use Rattle.decimal.proofs.natural_at.Given as goal
 
 abbrev pub invariant-loop-i : goal.invariant-loop-i

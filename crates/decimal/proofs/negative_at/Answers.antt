@@ -1,6 +1,5 @@
 -- `negative_at` meets its contract: behind a minus stands a number from 1 to 2^63. Assumes nothing.
 use Rattle.decimal.specs.ReadLaws.{negative_none, negative_zero, less_fits, negative_fits, negative_found}
-use borrow.Author.Rules.{rules}
 use Rattle.decimal.proofs.negative_at.Goals as goal
 
 pub returns-in_default : goal.returns-in_default

@@ -1,5 +1,4 @@
 -- `push` meets its contract: what stops it is what no number's digits can go on with. Assumes nothing.
-use borrow.Author.Rules.{rules}
 use Rattle.decimal.specs.ReadLaws.{push_stop, push_over, push_more}
 use Rattle.decimal.proofs.push.Goals as goal
 

@@ -1,6 +1,5 @@
 -- `whole_at` meets its contract: by whether there is a minus. Assumes nothing.
 use Rattle.decimal.specs.ReadLaws.{whole_past, minus_there}
-use borrow.Author.Rules.{rules}
 use Rattle.decimal.proofs.whole_at.Goals as goal
 
 pub returns-then-at-s : goal.returns-then-at-s

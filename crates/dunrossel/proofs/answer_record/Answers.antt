@@ -2,7 +2,6 @@
 use native.Mathlib.Omega.{arith}
 use Rattle.record.specs.Meaning.{numbers}
 use Rattle.dunrossel.specs.Record.{Job4Of, job4_of, there, few, taken_there, printed_is}
-use borrow.Author.Rules.{rules}
 use Rattle.dunrossel.proofs.answer_record.Goals as goal
 
 pub slice_bounds-write-end : goal.slice_bounds-write-end

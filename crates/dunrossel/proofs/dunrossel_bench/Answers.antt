@@ -1,6 +1,5 @@
 -- `dunrossel::dunrossel_bench` meets its contract: refusal 8 of what is no right record, else job 4's answer.
 use Rattle.dunrossel.specs.Record.{bench_malformed, bench_read}
-use borrow.Author.Rules.{rules}
 use Rattle.dunrossel.proofs.dunrossel_bench.Goals as goal
 
 pub returns-then-r-ne0 : goal.returns-then-r-ne0

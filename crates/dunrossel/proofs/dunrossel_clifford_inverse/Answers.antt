@@ -1,6 +1,5 @@
 -- `dunrossel::dunrossel_clifford_inverse` meets its contract: job 6 on the numbers of the array.
 use Rattle.dunrossel.specs.Handed.{inverted}
-use borrow.Author.Rules.{rules}
 use Rattle.dunrossel.proofs.dunrossel_clifford_inverse.Goals as goal
 
 pub returns : goal.returns

@@ -1,6 +1,5 @@
 -- `dunrossel::dunrossel_matrix` meets its contract: job 2 on the word.
 use Rattle.dunrossel.specs.Handed.{multiplies}
-use borrow.Author.Rules.{rules}
 use Rattle.dunrossel.proofs.dunrossel_matrix.Goals as goal
 
 pub returns : goal.returns

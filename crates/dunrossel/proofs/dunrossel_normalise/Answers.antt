@@ -1,6 +1,5 @@
 -- `dunrossel::dunrossel_normalise` meets its contract: job 3 on the word, into the lent bytes.
 use Rattle.dunrossel.specs.Handed.{writes}
-use borrow.Author.Rules.{rules}
 use Rattle.dunrossel.proofs.dunrossel_normalise.Goals as goal
 
 pub returns : goal.returns

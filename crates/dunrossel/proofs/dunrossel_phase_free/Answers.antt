@@ -1,6 +1,5 @@
 -- `dunrossel::dunrossel_phase_free` meets its contract: job 5 on the word, into the lent bytes.
 use Rattle.dunrossel.specs.Handed.{writes}
-use borrow.Author.Rules.{rules}
 use Rattle.dunrossel.proofs.dunrossel_phase_free.Goals as goal
 
 pub returns : goal.returns

@@ -1,6 +1,5 @@
 -- `dunrossel::dunrossel_qasm_read` meets its contract: the letters of the circuit, into the lent bytes.
 use Rattle.dunrossel.specs.Handed.{letters_read}
-use borrow.Author.Rules.{rules}
 use Rattle.dunrossel.proofs.dunrossel_qasm_read.Goals as goal
 
 pub returns : goal.returns

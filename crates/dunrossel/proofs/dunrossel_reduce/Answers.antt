@@ -1,6 +1,5 @@
 -- `dunrossel::dunrossel_reduce` meets its contract: job 1 on the numbers of the array.
 use Rattle.dunrossel.specs.Handed.{reduces}
-use borrow.Author.Rules.{rules}
 use Rattle.dunrossel.proofs.dunrossel_reduce.Goals as goal
 
 pub returns : goal.returns

@@ -1,6 +1,5 @@
 -- `dunrossel::dunrossel_synthesise_steps` meets its contract: job 4 on the numbers of the array.
 use Rattle.dunrossel.specs.Handed.{synthesises}
-use borrow.Author.Rules.{rules}
 use Rattle.dunrossel.proofs.dunrossel_synthesise_steps.Goals as goal
 
 pub returns : goal.returns

@@ -1,6 +1,5 @@
 -- `dunrossel::dunrossel_view` meets its contract: job 7 on the numbers of the array.
 use Rattle.dunrossel.specs.Handed.{views}
-use borrow.Author.Rules.{rules}
 use Rattle.dunrossel.proofs.dunrossel_view.Goals as goal
 
 pub returns : goal.returns

@@ -1,7 +1,7 @@
 -- A phase-free word has no W: where OpenQASM 2.0 is to be written for it, refusal 10 holds nowhere. Assumes nothing.
 use Rattle.std.specs.Prelude.{◌≡◌, Bool, true, false, List, [], ◌∷◌, ◌++◌, ℕ, zero, suc, get_or}
 use Rattle.std.proofs.Common.{subst, arith}
-use Rattle.exact.specs.Meaning.Word.{Letter, I, H, S, X, W, T', byte, bytes, First}
+use Rattle.exact.specs.Meaning.Word.{Letter, S, X, W, byte, bytes, First}
 use Rattle.exact.specs.Meaning.Normal.{Syllable, HT, SHT, Front, nothing, onlyH, onlySH, Shape, times, front_word, tail_word, or_i, after, leading, spell}
 use Rattle.exact.specs.Meaning.Normal.{without_w, PhaseFree}
 

@@ -1,6 +1,5 @@
 -- `handed::narrow` meets its contract: a byte fits.
 use Rattle.handed.specs.Numbers.{narrow_is}
-use borrow.Author.Rules.{rules}
 use Rattle.handed.proofs.narrow.Goals as goal
 
 pub returns : goal.returns

@@ -3,7 +3,6 @@ use mathlib.Core.Path.{◌∙◌, ap}
 use mathlib.Core.List.{[], ◌∷◌}
 use lib.IntN.{pos}
 use Rattle.handed.specs.Numbers.{narrow_held}
-use borrow.Author.Rules.{rules}
 use Rattle.handed.proofs.put_coset.Goals as goal
 
 pub returns : goal.returns

@@ -1,7 +1,6 @@
 -- `handed::put_rotation` meets its contract: each number as it is.
 use mathlib.Core.List.{[], ◌∷◌}
 use Rattle.handed.specs.Numbers.{wide_held, kept}
-use borrow.Author.Rules.{rules}
 use Rattle.handed.proofs.put_rotation.Goals as goal
 
 pub returns : goal.returns

@@ -1,6 +1,5 @@
 -- `handed::wide` meets its contract: a byte fits.
 use Rattle.handed.specs.Numbers.{wide_is}
-use borrow.Author.Rules.{rules}
 use Rattle.handed.proofs.wide.Goals as goal
 
 pub returns : goal.returns

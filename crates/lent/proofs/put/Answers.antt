@@ -1,8 +1,6 @@
 -- `lent::put` meets its contract. The loop's invariant: the first `i` bytes are in place. Assumes nothing.
-use Prim.Native.Nat.{◌-◌}
 use native.Mathlib.Omega.{arith}
-use lib.ListN.{length}
-use Rattle.lent.specs.Written.{Putting, putting_none, putting_more, putting_all, written_length}
+use Rattle.lent.specs.Written.{putting_none, putting_more, putting_all, written_length}
 use Rattle.lent.proofs.put.Goals as goal
 
 pub loop-i-init : goal.loop-i-init

@@ -1,8 +1,7 @@
 -- What the loops of `lent::put` keep.
 use Prim.Native.Nat.{◌-◌}
-use native.Mathlib.Omega.{arith}
 use lib.ListN.{length}
-use Rattle.lent.specs.Written.{Putting, putting_none, putting_more, putting_all, written_length}
+use Rattle.lent.specs.Written.{Putting}
 use Rattle.lent.proofs.put.Given as goal
 
 abbrev pub invariant-loop-i : goal.invariant-loop-i

@@ -1,5 +1,4 @@
 -- `normal_form::read_and_write` meets its contract. Assumes nothing.
-use borrow.Author.Rules.{rules}
 use Rattle.normal_form.specs.Answers.{refused_outside, readable, count_most, answered_by}
 use Rattle.normal_form.proofs.read_and_write.Goals as goal
 

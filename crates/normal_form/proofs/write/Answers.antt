@@ -1,5 +1,4 @@
 -- `normal_form::write` meets its contract. Assumes nothing.
-use borrow.Author.Rules.{rules}
 use Rattle.normal_form.specs.Answers.{size_fits, no_room_for, syllables_room, ending_room, written_for}
 use Rattle.reading.specs.Held.{count_within}
 use Rattle.normal_form.proofs.write.Goals as goal

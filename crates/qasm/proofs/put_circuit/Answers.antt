@@ -1,5 +1,4 @@
 -- `put_circuit` meets its contract. Assumes nothing.
-use borrow.Author.Rules.{rules}
 use Rattle.qasm.specs.WriterWays.{circuit_fits, circuit_no_room, circuit_put}
 use Rattle.qasm.proofs.put_circuit.Goals as goal
 

@@ -1,5 +1,4 @@
 -- `read` meets its contract. Assumes nothing.
-use borrow.Author.Rules.{rules}
 use Rattle.qasm.specs.ReaderWays.{no_text, of_circuit}
 use Rattle.qasm.proofs.read.Goals as goal
 

@@ -1,5 +1,4 @@
 -- `read_circuit` meets its contract. Assumes nothing.
-use borrow.Author.Rules.{rules}
 use Rattle.qasm.specs.ReaderWays.{too_many, no_room_read, was_read}
 use Rattle.qasm.proofs.read_circuit.Goals as goal
 

@@ -7,7 +7,7 @@ pub returns-then-word-gt-LONGEST : goal.returns-then-word-gt-LONGEST
 returns-then-word-gt-LONGEST c = search too_long
 
 pub write_word-requires : goal.write_word-requires
-write_word-requires c = record { fact_1 = search rules; fact_2 = search word_measures; fact_3 = search word_phase; }
+write_word-requires c = record { fact_1 = search rules; fact_2 = search word_measures; fact_3 = search word_phase }
 
 pub returns-in-Outside : goal.returns-in-Outside
 returns-in-Outside c = search outside

@@ -1,5 +1,4 @@
 -- `write_word` meets its contract. Assumes nothing.
-use borrow.Author.Rules.{rules}
 use Rattle.qasm.specs.WriterWays.{phase_refused, written_two, written_three}
 use Rattle.qasm.proofs.write_word.Goals as goal
 

@@ -1,5 +1,4 @@
 -- `reading::append_gate` meets its contract. Assumes nothing.
-use borrow.Author.Rules.{rules}
 use Rattle.reading.specs.Texts.{readable_in, moved_few, full, placed, added}
 use Rattle.reading.proofs.append_gate.Goals as goal
 

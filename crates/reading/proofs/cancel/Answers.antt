@@ -13,7 +13,7 @@ returns-then-count-eq0 c = search cancel_none
 
 pub behind-tail-requires : goal.behind-tail-requires
 behind-tail-requires c =
-    record { fact_1 = c.requires.fact_1; fact_2 = c.requires.fact_4; fact_3 = (pop_room c.if-count-eq0.false c.requires.fact_2).1; }
+    record { fact_1 = c.requires.fact_1; fact_2 = c.requires.fact_4; fact_3 = (pop_room c.if-count-eq0.false c.requires.fact_2).1 }
 
 pub pop-requires : goal.pop-requires
 pop-requires c =

@@ -1,5 +1,4 @@
 -- `reading::change` meets its contract. Assumes nothing.
-use borrow.Author.Rules.{rules}
 use Rattle.reading.specs.Held.{keeps, cancels, puts_placed, count_room, bytes_room, place_there, place_few, one_most}
 use Rattle.reading.proofs.change.Goals as goal
 

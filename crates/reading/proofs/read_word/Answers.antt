@@ -1,9 +1,7 @@
 -- `reading::read_word` meets its contract. Assumes nothing.
-use Prim.Native.Nat.{◌-◌}
 use native.Mathlib.Omega.{arith}
 use borrow.Author.Rules.{rules}
-use lib.ListN.{length}
-use Rattle.reading.specs.Reader.{Upto, upto_none, readable, room, first_outside, second_outside, upto_two, read_last, read_all}
+use Rattle.reading.specs.Reader.{upto_none, readable, room, first_outside, second_outside, upto_two, read_last, read_all}
 use Rattle.reading.proofs.read_word.Goals as goal
 
 pub loop-i-init : goal.loop-i-init
@@ -36,7 +34,7 @@ returns-then-second-gt-IDENTITY c =
 pub append_gates-r-requires : goal.append_gates-r-requires
 append_gates-r-requires c =
     let u = c.loop-i.invariant in
-    record { fact_1 = search rules; fact_2 = readable u; fact_3 = room u (omega arith) (omega arith) (omega arith); fact_4 = (omega arith, omega arith); }
+    record { fact_1 = search rules; fact_2 = readable u; fact_3 = room u (omega arith) (omega arith) (omega arith); fact_4 = (omega arith, omega arith) }
 
 pub overflow_add-i-in-loop-i-2 : goal.overflow_add-i-in-loop-i-2
 overflow_add-i-in-loop-i-2 c = omega arith
@@ -60,7 +58,7 @@ returns-then-first-gt-IDENTITY-2 c = search first_outside
 pub append_gates-r-requires-then-i-word : goal.append_gates-r-requires-then-i-word
 append_gates-r-requires-then-i-word c =
     let u = c.loop-i.invariant in
-    record { fact_1 = search rules; fact_2 = readable u; fact_3 = room u (omega arith) (omega arith) (omega arith); fact_4 = (omega arith, omega arith); }
+    record { fact_1 = search rules; fact_2 = readable u; fact_3 = room u (omega arith) (omega arith) (omega arith); fact_4 = (omega arith, omega arith) }
 
 pub returns-else-first-gt-IDENTITY-2 : goal.returns-else-first-gt-IDENTITY-2
 returns-else-first-gt-IDENTITY-2 c = search read_last

@@ -1,6 +1,5 @@
 -- `answer` meets its contract: the lines have room, and together they are the answer's. Assumes nothing.
 use Rattle.decimal.specs.Write.{first_room, second_room, third_room, row_written}
-use borrow.Author.Rules.{rules}
 use Rattle.record.proofs.answer.Goals as goal
 
 pub number_line-second-requires : goal.number_line-second-requires

@@ -1,6 +1,5 @@
 -- `counts` meets its contract: the three lines have room, and together they are those of the counts. Assumes nothing.
 use Rattle.decimal.specs.Write.{first_room, second_room, third_room, row_written}
-use borrow.Author.Rules.{rules}
 use Rattle.record.proofs.counts.Goals as goal
 
 pub number_line-second-requires : goal.number_line-second-requires

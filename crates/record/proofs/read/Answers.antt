@@ -1,7 +1,6 @@
 -- `read` meets its contract: where a line is missing no numbers have the input as their text, and where all are found these have.
 -- Assumes nothing.
 use Rattle.record.specs.Returns.{no_k, no_n, no_z, no_w_lem, n_fits, byte_behind, all_read}
-use borrow.Author.Rules.{rules}
 use Rattle.record.proofs.read.Goals as goal
 
 pub returns-in_default : goal.returns-in_default

@@ -1,5 +1,4 @@
 -- `ring::ntz` meets its contract: the trailing zeros of the number's size.
-use borrow.Author.Rules.{rules}
 use Rattle.ring.specs.Trailing.{none_left, counted, count_cast}
 use Rattle.ring.proofs.ntz.Goals as goal
 

@@ -1,7 +1,6 @@
 -- `ring::parity` meets its contract: 1 of an odd number, 0 of an even one.
 use mathlib.Core.Path.{sym, ◌∙◌, ap}
 use native.Mathlib.Omega.{arith}
-use borrow.Author.Rules.{rules}
 use mir.Facts.{to_z-of_z}
 use Rattle.exact.specs.Meaning.Number.{bit, odd}
 use Rattle.ring.proofs.parity.Goals as goal

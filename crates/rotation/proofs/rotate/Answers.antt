@@ -11,7 +11,7 @@ pub overflow_cast-k : goal.overflow_cast-k
 overflow_cast-k c = taken_cast c.ranges.k c.check-refusal.ensures (search rules)
 
 pub worked_out-r-requires : goal.worked_out-r-requires
-worked_out-r-requires c = record { fact_1 = search taken_few; fact_2 = search taken_unitary; }
+worked_out-r-requires c = record { fact_1 = search taken_few; fact_2 = search taken_unitary }
 
 pub returns : goal.returns
 returns c = search rotate_taken

@@ -5,10 +5,10 @@ use Rattle.rotation.specs.Turned.{columns_high, columns_low, worked}
 use Rattle.rotation.proofs.worked_out.Goals as goal
 
 pub columns-r-requires : goal.columns-r-requires
-columns-r-requires c = record { fact_1 = search rules; fact_2 = search unitary_held; }
+columns-r-requires c = record { fact_1 = search rules; fact_2 = search unitary_held }
 
 pub turned-requires : goal.turned-requires
-turned-requires c = record { fact_1 = search columns_high; fact_2 = search columns_low; }
+turned-requires c = record { fact_1 = search columns_high; fact_2 = search columns_low }
 
 pub returns : goal.returns
 returns c = search worked

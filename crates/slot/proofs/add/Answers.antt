@@ -1,5 +1,4 @@
 -- `slot::add` meets its contract. Assumes nothing.
-use borrow.Author.Rules.{rules}
 use Rattle.slot.specs.Ways.{told_right, add_wrong, add_outside, add_more}
 use Rattle.slot.proofs.add.Goals as goal
 

@@ -1,5 +1,4 @@
 -- `slot::add_right` meets its contract. Assumes nothing.
-use borrow.Author.Rules.{rules}
 use Rattle.slot.specs.Ways.{standing_readable, number_few, no_place, one_added}
 use Rattle.slot.proofs.add_right.Goals as goal
 

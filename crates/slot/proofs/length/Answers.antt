@@ -1,5 +1,4 @@
 -- `slot::length` meets its contract. Assumes nothing.
-use borrow.Author.Rules.{rules}
 use Rattle.slot.specs.Ways.{length_wrong, length_told}
 use Rattle.slot.proofs.length.Goals as goal
 

@@ -1,10 +1,5 @@
 -- `synthesis_of_clifford_t::answer` meets its contract: the letters stand at the start of the working buffer, and their normal word is the answer.
-use mathlib.Core.List.{List}
-use Prim.Native.Nat.{ℕ}
-use lib.ListN.{replicate}
-use Rattle.exact.specs.Meaning.Word.{Letter, bytes}
 use Rattle.unitary.specs.Meaning.{triple}
-use Rattle.writing.specs.Put.{Put}
 use Rattle.steps.specs.Steps.{letters}
 use Rattle.synthesis_of_clifford_t.specs.Code.{good_ready}
 use Rattle.synthesis_of_clifford_t.specs.Answer.{word_is, len_inside, word_long, no_room, with_steps}

@@ -1,7 +1,6 @@
 -- `synthesis_of_clifford_t::falls` compares the two counts. Assumes nothing.
 use mathlib.Core.Path.{ap₂}
 use lib.Dec.{eqb}
-use borrow.Author.Rules.{rules}
 use Rattle.steps.specs.Residues.{falls_by}
 use Rattle.synthesis_of_clifford_t.proofs.falls.Goals as goal
 

@@ -35,7 +35,7 @@ returns-then-falls c =
 
 pub lowered-next-requires : goal.lowered-next-requires
 lowered-next-requires c =
-    record { fact_1 = search raised_z; fact_2 = search raised_w; fact_3 = search raised_over_0; fact_4 = search raised_both; }
+    record { fact_1 = search raised_z; fact_2 = search raised_w; fact_3 = search raised_over_0; fact_4 = search raised_both }
 
 pub returns : goal.returns
 returns c =

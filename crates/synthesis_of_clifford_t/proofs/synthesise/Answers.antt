@@ -14,12 +14,12 @@ pub reduce_denomexp-s-requires : goal.reduce_denomexp-s-requires
 reduce_denomexp-s-requires c =
     let fits = c.ranges.k in
     let small = taken_small fits c.check-refusal.ensures (search rules) in
-    record { fact_1 = small.0; fact_2 = small.1; fact_3 = taken_k fits c.check-refusal.ensures (search rules); }
+    record { fact_1 = small.0; fact_2 = small.1; fact_3 = taken_k fits c.check-refusal.ensures (search rules) }
 
 pub answer-requires : goal.answer-requires
 answer-requires c =
     let good = reduced_good c.args.k c.args.n c.args.z c.args.w c.args.buf.now c.ranges.k _ c.check-refusal.ensures (search rules) _
-        c.reduce_denomexp-s.ensures in
+    c.reduce_denomexp-s.ensures in
     record { fact_1 = good.0; fact_2 = good.1 }
 
 pub returns : goal.returns

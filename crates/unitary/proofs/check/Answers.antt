@@ -21,7 +21,7 @@ overflow_cast-k c = cast_inside c.args.k (search rules) (search rules) (search r
 
 pub is_unitary-requires : goal.is_unitary-requires
 is_unitary-requires c =
-    let k = c.args.k in record { fact_1 = few_inside k (search rules) (search rules) (search rules); fact_2 = small_inside c.within_limits.ensures (search rules) c.within_limits-2.ensures (search rules); }
+    let k = c.args.k in record { fact_1 = few_inside k (search rules) (search rules) (search rules); fact_2 = small_inside c.within_limits.ensures (search rules) c.within_limits-2.ensures (search rules) }
 
 pub returns-then-not-is_unitary : goal.returns-then-not-is_unitary
 returns-then-not-is_unitary c = search refused_sums

@@ -1,8 +1,5 @@
 -- `unitary::first_outside` meets its contract. The invariant: every byte passed is a letter; the measure is what is left of the length.
-use Prim.Native.Nat.{◌≤◌, ◌-◌}
 use native.Mathlib.Omega.{arith}
-use lib.ListN.{length}
-use Rattle.exact.specs.Cases.Letters.{Inside}
 use Rattle.unitary.specs.Letters.{scanned_more, scanned_stop, scanned_end}
 use Rattle.unitary.proofs.first_outside.Goals as goal
 

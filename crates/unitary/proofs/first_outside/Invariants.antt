@@ -1,9 +1,7 @@
 -- What the loops of `unitary::first_outside` keep.
 use Prim.Native.Nat.{◌≤◌, ◌-◌}
-use native.Mathlib.Omega.{arith}
 use lib.ListN.{length}
 use Rattle.exact.specs.Cases.Letters.{Inside}
-use Rattle.unitary.specs.Letters.{scanned_more, scanned_stop, scanned_end}
 use Rattle.unitary.proofs.first_outside.Given as goal
 
 abbrev pub invariant-loop-i : goal.invariant-loop-i

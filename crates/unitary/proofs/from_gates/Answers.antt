@@ -1,10 +1,7 @@
 -- `unitary::from_gates` meets its contract. The invariant: the ending from i on has been read, and it and those after it are shallow; the
 -- measure is i.
-use Prim.Native.Nat.{◌≤◌}
 use native.Mathlib.Omega.{arith}
-use lib.ListN.{length}
-use Rattle.exact.specs.Cases.Letters.{letters_of}
-use Rattle.unitary.specs.Reading.{Read, read_start, step_more, refused_long, refused_letter, refused_deep, read_whole}
+use Rattle.unitary.specs.Reading.{read_start, step_more, refused_long, refused_letter, refused_deep, read_whole}
 use Rattle.unitary.proofs.from_gates.Goals as goal
 
 pub stopped-requires : goal.stopped-requires
@@ -35,7 +32,7 @@ pub bounds-word-at : goal.bounds-word-at
 bounds-word-at c = omega arith
 
 pub mul_by_letter_from_left-t-requires : goal.mul_by_letter_from_left-t-requires
-mul_by_letter_from_left-t-requires c = let r = c.loop-i.invariant.1 in record { fact_1 = r.good; fact_2 = r.few; }
+mul_by_letter_from_left-t-requires c = let r = c.loop-i.invariant.1 in record { fact_1 = r.good; fact_2 = r.few }
 
 pub stopped-requires-then-t-gt60 : goal.stopped-requires-then-t-gt60
 stopped-requires-then-t-gt60 c = tt

@@ -1,9 +1,8 @@
 -- What the loops of `unitary::from_gates` keep.
 use Prim.Native.Nat.{◌≤◌}
-use native.Mathlib.Omega.{arith}
 use lib.ListN.{length}
 use Rattle.exact.specs.Cases.Letters.{letters_of}
-use Rattle.unitary.specs.Reading.{Read, read_start, step_more, refused_long, refused_letter, refused_deep, read_whole}
+use Rattle.unitary.specs.Reading.{Read}
 use Rattle.unitary.proofs.from_gates.Given as goal
 
 abbrev pub invariant-loop-i : goal.invariant-loop-i

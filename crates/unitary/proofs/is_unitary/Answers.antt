@@ -1,6 +1,5 @@
 -- `unitary::is_unitary` meets its contract: each of the two sums is one comparison.
 use Rattle.unitary.specs.Checks.{refutes, squares_need, squares_agree, squares_differ, crosses_need, crosses_decide}
-use borrow.Author.Rules.{rules}
 use Rattle.unitary.proofs.is_unitary.Goals as goal
 
 pub overflow_sub-size : goal.overflow_sub-size

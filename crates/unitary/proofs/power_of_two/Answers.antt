@@ -1,6 +1,5 @@
 -- `unitary::power_of_two` meets its contract: the shift loses no bit.
 use Rattle.unitary.specs.Checks.{shifted}
-use borrow.Author.Rules.{rules}
 use Rattle.unitary.proofs.power_of_two.Goals as goal
 
 pub returns : goal.returns

@@ -12,7 +12,7 @@ overflow_cast-t c = taken_cast c.ranges.k c.check-refusal.ensures (search rules)
 pub reduce_denomexp-matrix-requires : goal.reduce_denomexp-matrix-requires
 reduce_denomexp-matrix-requires c =
     let small = taken_small c.ranges.k c.check-refusal.ensures (search rules) in
-    record { fact_1 = small.0; fact_2 = small.1; fact_3 = taken_k c.ranges.k c.check-refusal.ensures (search rules); }
+    record { fact_1 = small.0; fact_2 = small.1; fact_3 = taken_k c.ranges.k c.check-refusal.ensures (search rules) }
 
 pub returns : goal.returns
 returns c = search reduce_taken

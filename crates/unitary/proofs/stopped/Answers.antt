@@ -1,5 +1,4 @@
 -- `unitary::stopped` meets its contract: the number, the place, and numbers 0.
-use borrow.Author.Rules.{rules}
 use Rattle.unitary.proofs.stopped.Goals as goal
 
 pub returns : goal.returns

@@ -1,7 +1,6 @@
 -- `unitary::within_limit` meets its contract: the two ends are tested one after the other.
 use mir.Facts.{to_z-of_z}
 use Rattle.unitary.specs.Checks.{refutes, too_low, high_enough}
-use borrow.Author.Rules.{rules}
 use Rattle.unitary.proofs.within_limit.Goals as goal
 
 pub returns-then-x : goal.returns-then-x

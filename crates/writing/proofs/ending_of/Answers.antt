@@ -1,7 +1,6 @@
 -- `writing::ending_of` meets its contract. Assumes nothing.
 use Prim.Native.Nat.{◌≤◌}
 use native.Mathlib.Omega.{arith}
-use borrow.Author.Rules.{rules}
 use Rattle.writing.specs.Endings.{Few, split_few, kept_few, ended}
 use Rattle.reading.specs.Steps.{fits_ranged}
 use Rattle.writing.proofs.ending_of.Goals as goal

@@ -1,13 +1,13 @@
 -- `writing::put_ending` meets its contract. Assumes nothing.
 use mathlib.Core.Path.{◌≡◌, sym, ◌∙◌}
-use Prim.Native.Nat.{ℕ, ◌-◌}
+use Prim.Native.Nat.{ℕ}
 use native.Mathlib.Omega.{arith}
 use borrow.Author.Rules.{rules}
 use lib.ListN.{length}
 use Rattle.exact.specs.Meaning.Word.{bytes}
 use Rattle.exact.specs.Cases.Letters.{bytes_length}
 use Rattle.writing.specs.Endings.{end_word, end_size, end_length, letter_in_lem}
-use Rattle.writing.specs.Put.{Putting, putting_none, putting_long, putting_more, putting_all}
+use Rattle.writing.specs.Put.{putting_none, putting_long, putting_more, putting_all}
 use Rattle.writing.specs.declared.Ending.{Ending}
 use Rattle.writing.proofs.put_ending.Goals as goal
 

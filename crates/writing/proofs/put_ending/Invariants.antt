@@ -1,14 +1,9 @@
 -- What the loops of `writing::put_ending` keep.
-use mathlib.Core.Path.{◌≡◌, sym, ◌∙◌}
-use Prim.Native.Nat.{ℕ, ◌-◌}
-use native.Mathlib.Omega.{arith}
-use borrow.Author.Rules.{rules}
-use lib.ListN.{length}
+use mathlib.Core.Path.{◌≡◌}
+use Prim.Native.Nat.{◌-◌}
 use Rattle.exact.specs.Meaning.Word.{bytes}
-use Rattle.exact.specs.Cases.Letters.{bytes_length}
-use Rattle.writing.specs.Endings.{end_word, end_size, end_length, letter_in_lem}
-use Rattle.writing.specs.Put.{Putting, putting_none, putting_long, putting_more, putting_all}
-use Rattle.writing.specs.declared.Ending.{Ending}
+use Rattle.writing.specs.Endings.{end_word, end_size}
+use Rattle.writing.specs.Put.{Putting}
 use Rattle.writing.proofs.put_ending.Given as goal
 
 abbrev pub invariant-loop-j : goal.invariant-loop-j

@@ -1,5 +1,4 @@
 -- `writing::put_letter` meets its contract. Assumes nothing.
-use borrow.Author.Rules.{rules}
 use Rattle.writing.specs.Put.{put_one}
 use Rattle.writing.proofs.put_letter.Goals as goal
 

@@ -1,13 +1,9 @@
 -- `writing::put_syllables` meets its contract. Assumes nothing.
-use mathlib.Core.Path.{◌≡◌}
-use Prim.Native.Nat.{◌-◌, ◌≤◌}
 use native.Mathlib.Nat.{le_antisymm}
 use native.Mathlib.Omega.{arith}
 use borrow.Author.Rules.{rules}
-use lib.ListN.{length, take}
-use Rattle.exact.specs.Meaning.Word.{bytes}
-use Rattle.writing.specs.Codes.{codes_word, one_room, one_more}
-use Rattle.writing.specs.Put.{Put, put_none}
+use Rattle.writing.specs.Codes.{one_room, one_more}
+use Rattle.writing.specs.Put.{put_none}
 use Rattle.writing.specs.Spelt.{spelt_room}
 use Rattle.writing.proofs.put_syllables.Goals as goal
 

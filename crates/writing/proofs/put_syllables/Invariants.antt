@@ -1,14 +1,10 @@
 -- What the loops of `writing::put_syllables` keep.
 use mathlib.Core.Path.{◌≡◌}
 use Prim.Native.Nat.{◌-◌, ◌≤◌}
-use native.Mathlib.Nat.{le_antisymm}
-use native.Mathlib.Omega.{arith}
-use borrow.Author.Rules.{rules}
 use lib.ListN.{length, take}
 use Rattle.exact.specs.Meaning.Word.{bytes}
-use Rattle.writing.specs.Codes.{codes_word, one_room, one_more}
-use Rattle.writing.specs.Put.{Put, put_none}
-use Rattle.writing.specs.Spelt.{spelt_room}
+use Rattle.writing.specs.Codes.{codes_word}
+use Rattle.writing.specs.Put.{Put}
 use Rattle.writing.proofs.put_syllables.Given as goal
 
 abbrev pub invariant-loop-k : goal.invariant-loop-k

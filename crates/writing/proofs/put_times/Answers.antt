@@ -1,10 +1,9 @@
 -- `writing::put_times` meets its contract. Assumes nothing.
 use mathlib.Core.Path.{sym}
-use Prim.Native.Nat.{◌-◌}
 use native.Mathlib.Omega.{arith}
 use borrow.Author.Rules.{rules}
-use lib.ListN.{replicate, length-replicate, get_or-replicate}
-use Rattle.writing.specs.Put.{Putting, putting_none, putting_long, putting_more, putting_all}
+use lib.ListN.{length-replicate, get_or-replicate}
+use Rattle.writing.specs.Put.{putting_none, putting_long, putting_more, putting_all}
 use Rattle.writing.proofs.put_times.Goals as goal
 
 pub loop-j-init : goal.loop-j-init

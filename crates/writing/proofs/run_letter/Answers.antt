@@ -1,5 +1,4 @@
 -- `writing::run_letter` meets its contract. Assumes nothing.
-use borrow.Author.Rules.{rules}
 use Rattle.writing.specs.Runs.{run_last}
 use Rattle.writing.proofs.run_letter.Goals as goal
 

@@ -1,5 +1,4 @@
 -- `clifford::Clifford::decompose_tconj` meets its contract. Assumes nothing.
-use borrow.Author.Rules.{rules}
 use Rattle.clifford.specs.Cliffords.{tconj_by}
 use Rattle.clifford.proofs.Clifford.decompose_tconj.Goals as goal
 

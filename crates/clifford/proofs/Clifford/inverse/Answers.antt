@@ -1,5 +1,4 @@
 -- `clifford::Clifford::inverse` meets its contract. Assumes nothing.
-use borrow.Author.Rules.{rules}
 use Rattle.clifford.specs.Cliffords.{inv_by}
 use Rattle.clifford.proofs.Clifford.inverse.Goals as goal
 

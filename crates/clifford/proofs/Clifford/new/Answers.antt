@@ -1,5 +1,4 @@
 -- `clifford::Clifford::new` meets its contract. Assumes nothing.
-use borrow.Author.Rules.{rules}
 use Rattle.clifford.specs.Remainder.{reduced_by}
 use Rattle.clifford.proofs.Clifford.new.Goals as goal
 

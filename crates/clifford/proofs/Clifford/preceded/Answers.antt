@@ -1,8 +1,7 @@
 -- `clifford::Clifford::preceded` meets its contract: what is left stands before what was moved. Assumes nothing.
 use mathlib.Core.Path.{refl}
-use Prim.Native.Nat.{◌+◌}
 use borrow.Author.Rules.{rules}
-use Rattle.clifford.specs.Moves.{Going, going_on, gone}
+use Rattle.clifford.specs.Moves.{going_on, gone}
 use Rattle.clifford.proofs.Clifford.preceded.Goals as goal
 
 pub loop-left-init : goal.loop-left-init

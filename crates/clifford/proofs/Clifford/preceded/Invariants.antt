@@ -1,8 +1,6 @@
 -- What the loops of `clifford::Clifford::preceded` keep.
-use mathlib.Core.Path.{refl}
 use Prim.Native.Nat.{◌+◌}
-use borrow.Author.Rules.{rules}
-use Rattle.clifford.specs.Moves.{Going, going_on, gone}
+use Rattle.clifford.specs.Moves.{Going}
 use Rattle.clifford.proofs.Clifford.preceded.Given as goal
 
 abbrev pub invariant-loop-left : goal.invariant-loop-left

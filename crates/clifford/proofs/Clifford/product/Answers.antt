@@ -1,5 +1,4 @@
 -- `clifford::Clifford::product` meets its contract. Assumes nothing.
-use borrow.Author.Rules.{rules}
 use Rattle.clifford.specs.Cliffords.{mul_by}
 use Rattle.clifford.proofs.Clifford.product.Goals as goal
 

@@ -1,6 +1,5 @@
 -- `text::number_line` meets its contract: name, value and LF have room, and together they are the line. Assumes nothing.
 use Rattle.decimal.specs.Write.{first_room, second_room, third_room, row_written}
-use borrow.Author.Rules.{rules}
 use Rattle.decimal.proofs.text.number_line.Goals as goal
 
 pub put-value-requires : goal.put-value-requires

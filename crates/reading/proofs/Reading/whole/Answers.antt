@@ -1,5 +1,4 @@
 -- `reading::Reading::whole` meets its contract. Assumes nothing.
-use borrow.Author.Rules.{rules}
 use Rattle.reading.specs.Texts.{whole_is}
 use Rattle.reading.proofs.Reading.whole.Goals as goal
 

@@ -1,5 +1,4 @@
 -- `reading::steps::axis_at` meets its contract. Assumes nothing.
-use borrow.Author.Rules.{rules}
 use Rattle.reading.specs.Steps.{axis_last}
 use Rattle.reading.proofs.steps.axis_at.Goals as goal
 

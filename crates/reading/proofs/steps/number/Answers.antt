@@ -1,5 +1,4 @@
 -- `reading::steps::number` meets its contract. Assumes nothing.
-use borrow.Author.Rules.{rules}
 use Rattle.reading.specs.Steps.{number_in, number_low, number_high}
 use Rattle.reading.proofs.steps.number.Goals as goal
 

@@ -1,6 +1,5 @@
 -- `lines::four_at` meets its contract: each number that is found leaves the rest to be found. Assumes nothing.
 use Rattle.record.specs.LineLaws.{no_a, no_b, no_c, no_d, four_found}
-use borrow.Author.Rules.{rules}
 use Rattle.record.proofs.lines.four_at.Goals as goal
 
 pub returns-in_default : goal.returns-in_default

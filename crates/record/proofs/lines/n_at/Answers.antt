@@ -1,6 +1,5 @@
 -- `lines::n_at` meets its contract: the name, then the number. Assumes nothing.
 use Rattle.record.specs.LineLaws.{no_n_name, n_is}
-use borrow.Author.Rules.{rules}
 use Rattle.record.proofs.lines.n_at.Goals as goal
 
 pub returns-in_default : goal.returns-in_default

@@ -1,6 +1,5 @@
 -- `lines::name_at` meets its contract, a law for each way out. Assumes nothing.
 use Rattle.record.specs.LineLaws.{name_past, name_other, name_short, name_unequal, name_found}
-use borrow.Author.Rules.{rules}
 use Rattle.record.proofs.lines.name_at.Goals as goal
 
 pub returns-then-at-s : goal.returns-then-at-s

@@ -1,6 +1,5 @@
 -- `lines::ring_at` meets its contract: the name, then the four numbers. Assumes nothing.
 use Rattle.record.specs.LineLaws.{no_ring_name, ring_is}
-use borrow.Author.Rules.{rules}
 use Rattle.record.proofs.lines.ring_at.Goals as goal
 
 pub returns-in_default : goal.returns-in_default

@@ -1,6 +1,5 @@
 -- `ring::ZOmega::divisible` meets its contract: both sums are even.
 use Prim.Native.Nat.{◌^◌}
-use borrow.Author.Rules.{rules}
 use Rattle.exact.specs.Whole.Machine.{arg, ◌∔◌}
 use Rattle.ring.specs.Code.{fits₁}
 use Rattle.ring.specs.Parities.{first_even, first_odd}

@@ -1,5 +1,4 @@
 -- `ring::ZOmega::halved` meets its contract: each coefficient shifted, nothing lost because 2 to the m divides it.
-use borrow.Author.Rules.{rules}
 use Rattle.ring.specs.Divided.{by_twos_lem}
 use Rattle.ring.proofs.ZOmega.halved.Goals as goal
 

@@ -1,5 +1,4 @@
 -- `ring::ZOmega::mul_by_omega_inv_power` meets its contract: by the inverse m times.
-use borrow.Author.Rules.{rules}
 use Rattle.ring.specs.Number.{small_back, power_none, power_once, power_twice, power_thrice}
 use Rattle.ring.proofs.ZOmega.mul_by_omega_inv_power.Goals as goal
 

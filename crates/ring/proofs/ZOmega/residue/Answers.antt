@@ -1,5 +1,4 @@
 -- `ring::ZOmega::residue` meets its contract: each bit is a parity.
-use borrow.Author.Rules.{rules}
 use Rattle.ring.specs.Parities.{four_bits}
 use Rattle.ring.proofs.ZOmega.residue.Goals as goal
 

@@ -1,6 +1,5 @@
 -- `root_two::Vect::roots` meets its contract.
 use Rattle.root_two.specs.Common.{common_back}
-use borrow.Author.Rules.{rules}
 use Rattle.root_two.proofs.Vect.roots.Goals as goal
 
 pub returns : goal.returns

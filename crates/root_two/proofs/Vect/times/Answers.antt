@@ -1,6 +1,5 @@
 -- `root_two::Vect::times` meets its contract, part by part.
 use Rattle.exact.specs.Rotation.Vectors.{vect_path}
-use borrow.Author.Rules.{rules}
 use Rattle.root_two.proofs.Vect.times.Goals as goal
 
 pub returns : goal.returns

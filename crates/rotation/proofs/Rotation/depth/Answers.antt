@@ -1,5 +1,4 @@
 -- `Rotation::depth` meets its contract: an even power of root two is told by the p, an odd one by the q.
-use borrow.Author.Rules.{rules}
 use Rattle.rotation.specs.Shared.{deepest_found}
 use Rattle.rotation.proofs.Rotation.depth.Goals as goal
 

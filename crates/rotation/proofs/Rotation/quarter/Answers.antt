@@ -1,6 +1,5 @@
 -- `Rotation::quarter` meets its contract.
 use Rattle.rotation.specs.Turned.{quartered}
-use borrow.Author.Rules.{rules}
 use Rattle.rotation.proofs.Rotation.quarter.Goals as goal
 
 pub returns : goal.returns

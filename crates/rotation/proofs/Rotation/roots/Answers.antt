@@ -1,5 +1,4 @@
 -- `Rotation::roots` meets its contract.
-use borrow.Author.Rules.{rules}
 use Rattle.rotation.specs.Shared.{nine_q}
 use Rattle.rotation.proofs.Rotation.roots.Goals as goal
 

@@ -1,5 +1,4 @@
 -- `Rotation::wholes` meets its contract.
-use borrow.Author.Rules.{rules}
 use Rattle.rotation.specs.Shared.{nine_p}
 use Rattle.rotation.proofs.Rotation.wholes.Goals as goal
 

@@ -1,5 +1,4 @@
 -- `columns::columns` meets its contract: each need by the entries' sizes, and by those of squares and products.
-use borrow.Author.Rules.{rules}
 use Rattle.rotation.specs.Columns.{straight_twiced, x_fit, y_fit, columns_made}
 use Rattle.rotation.proofs.columns.columns.Goals as goal
 

@@ -1,6 +1,5 @@
 -- `columns::norm_difference` meets its contract.
 use Rattle.rotation.specs.Columns.{squares_less, crosses_less, norms_is}
-use borrow.Author.Rules.{rules}
 use Rattle.rotation.proofs.columns.norm_difference.Goals as goal
 
 pub overflow_sub-result : goal.overflow_sub-result

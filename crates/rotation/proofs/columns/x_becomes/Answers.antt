@@ -1,5 +1,4 @@
 -- `columns::x_becomes` meets its contract, part by part.
-use borrow.Author.Rules.{rules}
 use Rattle.rotation.specs.Columns.{minus_fits, x_made}
 use Rattle.rotation.proofs.columns.x_becomes.Goals as goal
 

@@ -1,5 +1,4 @@
 -- `columns::y_becomes` meets its contract, part by part.
-use borrow.Author.Rules.{rules}
 use Rattle.rotation.specs.Columns.{y_made}
 use Rattle.rotation.proofs.columns.y_becomes.Goals as goal
 

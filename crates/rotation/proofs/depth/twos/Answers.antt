@@ -1,6 +1,5 @@
 -- `depth::twos` meets its contract.
 use Rattle.rotation.specs.Shared.{twos_nought, twos_some}
-use borrow.Author.Rules.{rules}
 use Rattle.rotation.proofs.depth.twos.Goals as goal
 
 pub returns-then-x-eq0 : goal.returns-then-x-eq0

@@ -1,9 +1,6 @@
 -- `slot::told::behind` meets its contract. Assumes nothing.
-use Prim.Native.Nat.{◌-◌}
 use native.Mathlib.Omega.{arith}
-use borrow.Author.Rules.{rules}
-use lib.ListN.{length}
-use Rattle.slot.specs.Tests.{Emptying, behind_start, behind_more, behind_end}
+use Rattle.slot.specs.Tests.{behind_start, behind_more, behind_end}
 use Rattle.slot.proofs.told.behind.Goals as goal
 
 pub loop-i-init : goal.loop-i-init

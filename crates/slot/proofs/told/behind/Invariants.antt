@@ -1,9 +1,7 @@
 -- What the loops of `slot::told::behind` keep.
 use Prim.Native.Nat.{◌-◌}
-use native.Mathlib.Omega.{arith}
-use borrow.Author.Rules.{rules}
 use lib.ListN.{length}
-use Rattle.slot.specs.Tests.{Emptying, behind_start, behind_more, behind_end}
+use Rattle.slot.specs.Tests.{Emptying}
 use Rattle.slot.proofs.told.behind.Given as goal
 
 abbrev pub invariant-loop-i : goal.invariant-loop-i

@@ -1,5 +1,4 @@
 -- `slot::told::check` meets its contract. Assumes nothing.
-use borrow.Author.Rules.{rules}
 use Rattle.slot.specs.Standing.{ranges_by, wrong_ranges}
 use Rattle.slot.proofs.told.check.Goals as goal
 

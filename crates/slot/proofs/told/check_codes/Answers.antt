@@ -1,5 +1,4 @@
 -- `slot::told::check_codes` meets its contract. Assumes nothing.
-use borrow.Author.Rules.{rules}
 use Rattle.slot.specs.Standing.{count_room, all_room, right_fronts, stack_few, stands, wrong_bytes, wrong_codes}
 use Rattle.slot.proofs.told.check_codes.Goals as goal
 

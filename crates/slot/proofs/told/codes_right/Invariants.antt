@@ -1,8 +1,6 @@
 -- What the loops of `slot::told::codes_right` keep.
 use Prim.Native.Nat.{◌-◌}
-use native.Mathlib.Omega.{arith}
-use borrow.Author.Rules.{rules}
-use Rattle.slot.specs.Tests.{Fronting, fronts_none, fronts_first, fronts_more, fronts_end}
+use Rattle.slot.specs.Tests.{Fronting}
 use Rattle.slot.proofs.told.codes_right.Given as goal
 
 abbrev pub invariant-loop-i : goal.invariant-loop-i

@@ -1,7 +1,6 @@
 -- What the loops of `slot::told::letters_of` keep.
 use Prim.Native.Nat.{◌-◌, ◌≤◌}
-use native.Mathlib.Omega.{arith}
-use Rattle.slot.specs.Tests.{Summing, sum_none, code_fits, sum_fits, sum_more, sum_end}
+use Rattle.slot.specs.Tests.{Summing}
 use Rattle.slot.proofs.told.letters_of.Given as goal
 
 abbrev pub invariant-loop-i : goal.invariant-loop-i

@@ -1,5 +1,4 @@
 -- `slot::told::ranged` meets its contract. Assumes nothing.
-use borrow.Author.Rules.{rules}
 use Rattle.slot.specs.Tests.{many, a_out, b_out, c_out, d_tells}
 use Rattle.slot.proofs.told.ranged.Goals as goal
 

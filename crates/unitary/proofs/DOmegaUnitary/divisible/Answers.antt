@@ -2,7 +2,6 @@
 use mathlib.Core.Path.{◌≡◌, refl, sym, ◌∙◌, ap₂}
 use mathlib.Core.Bool.{Bool, true, false, ◌&&◌}
 use Rattle.exact.specs.Whole.Parity.{false_true}
-use borrow.Author.Rules.{rules}
 use Rattle.unitary.proofs.DOmegaUnitary.divisible.Goals as goal
 
 -- a false first part makes the whole false

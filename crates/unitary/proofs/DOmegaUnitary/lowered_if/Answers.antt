@@ -7,7 +7,7 @@ pub returns-then-self-eq0 : goal.returns-then-self-eq0
 returns-then-self-eq0 c = search at_nought
 
 pub lowered-requires : goal.lowered-requires
-lowered-requires c = record { fact_1 = search rules; fact_2 = search rules; fact_3 = search rules; fact_4 = search both_so; }
+lowered-requires c = record { fact_1 = search rules; fact_2 = search rules; fact_3 = search rules; fact_4 = search both_so }
 
 pub returns-then-divisible : goal.returns-then-divisible
 returns-then-divisible c = search one_root

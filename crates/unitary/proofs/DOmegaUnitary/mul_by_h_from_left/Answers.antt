@@ -2,7 +2,6 @@
 use native.Mathlib.Numerals.{add-one}
 use mathlib.Core.Path.{refl}
 use Rattle.unitary.specs.Triples.{by_parts}
-use borrow.Author.Rules.{rules}
 use Rattle.unitary.proofs.DOmegaUnitary.mul_by_h_from_left.Goals as goal
 
 pub returns : goal.returns

@@ -3,7 +3,6 @@ use mathlib.Core.Path.{refl, ◌∙◌}
 use Rattle.ring.specs.Meaning.{quad}
 use Rattle.unitary.specs.Triples.{by_parts}
 use Rattle.unitary.specs.Acts.{small_turned, twice_turned}
-use borrow.Author.Rules.{rules}
 use Rattle.unitary.proofs.DOmegaUnitary.mul_by_s_from_left.Goals as goal
 
 pub mul_by_omega-new_w-requires : goal.mul_by_omega-new_w-requires

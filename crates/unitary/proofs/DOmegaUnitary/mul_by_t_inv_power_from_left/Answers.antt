@@ -1,7 +1,6 @@
 -- `unitary::DOmegaUnitary::mul_by_t_inv_power_from_left` meets its contract: w goes by omega to the power -m, and n with it.
 use mathlib.Core.Path.{refl}
 use Rattle.unitary.specs.Triples.{by_parts}
-use borrow.Author.Rules.{rules}
 use Rattle.unitary.proofs.DOmegaUnitary.mul_by_t_inv_power_from_left.Goals as goal
 
 pub returns : goal.returns

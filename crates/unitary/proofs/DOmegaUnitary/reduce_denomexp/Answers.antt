@@ -10,13 +10,13 @@ pub returns-then-not-divisible : goal.returns-then-not-divisible
 returns-then-not-divisible c = search reduced_there
 
 pub lowered-requires : goal.lowered-requires
-lowered-requires c = record { fact_1 = search rules; fact_2 = search rules; fact_3 = search rules; fact_4 = search both_left; }
+lowered-requires c = record { fact_1 = search rules; fact_2 = search rules; fact_3 = search rules; fact_4 = search both_left }
 
 pub returns-then-m-eq0 : goal.returns-then-m-eq0
 returns-then-m-eq0 c = search no_twos
 
 pub lowered_if-requires : goal.lowered_if-requires
-lowered_if-requires c = record { fact_1 = search halved_z; fact_2 = search halved_w; }
+lowered_if-requires c = record { fact_1 = search halved_z; fact_2 = search halved_w }
 
 pub returns : goal.returns
 returns c = search twos_off

@@ -1,6 +1,5 @@
 -- `unitary::DOmegaUnitary::twos` meets its contract: the trailing zeros that all eight share, and at most half of k.
 use Rattle.unitary.specs.Reducing.{all_nought, at_most, all_shared}
-use borrow.Author.Rules.{rules}
 use Rattle.unitary.proofs.DOmegaUnitary.twos.Goals as goal
 
 pub returns-then-common-eq0 : goal.returns-then-common-eq0

@@ -1,5 +1,4 @@
 -- `float::near` meets its contract. Assumes nothing.
-use borrow.Author.Rules.{rules}
 use mathlib.Core.Path.{sym, subst, ap, ◌∙◌}
 use Prim.Native.Nat.{◌^◌, ◌≤◌}
 use lib.IntN.{ℤ, nat_abs}

@@ -1,5 +1,4 @@
 -- `float::over` meets its contract. Assumes nothing.
-use borrow.Author.Rules.{rules}
 use Rattle.view.proofs.Branches.{doubled_fits, asked_even, shows_even, asked_odd, shows_odd}
 use Rattle.view.proofs.float.over.Goals as goal
 

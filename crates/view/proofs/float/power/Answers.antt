@@ -1,5 +1,4 @@
 -- `float::power` meets its contract. Assumes nothing.
-use borrow.Author.Rules.{rules}
 use Rattle.view.proofs.Powers.{power_casts, power_is}
 use Rattle.view.proofs.float.power.Goals as goal
 

@@ -1,8 +1,6 @@
 -- `number::mul_by_omega_power` meets its contract. The invariant: after i turns y is the number times omega to the i. Assumes nothing.
-use mathlib.Core.Path.{◌≡◌}
-use Prim.Native.Nat.{◌≤◌, ◌-◌, ◌^◌}
+use Prim.Native.Nat.{◌^◌}
 use native.Mathlib.Omega.{arith}
-use Rattle.exact.specs.Meaning.Number.{ints, mul_q, omega^}
 use Rattle.exact.specs.Matrices.Sizes.{sized_le}
 use Rattle.ring.specs.Meaning.{quad}
 use Rattle.view.specs.Size.{coefficients, small_power}

@@ -1,12 +1,8 @@
 -- What the loops of `view::number::mul_by_omega_power` keep.
 use mathlib.Core.Path.{◌≡◌}
-use Prim.Native.Nat.{◌≤◌, ◌-◌, ◌^◌}
-use native.Mathlib.Omega.{arith}
+use Prim.Native.Nat.{◌≤◌, ◌-◌}
 use Rattle.exact.specs.Meaning.Number.{ints, mul_q, omega^}
-use Rattle.exact.specs.Matrices.Sizes.{sized_le}
 use Rattle.ring.specs.Meaning.{quad}
-use Rattle.view.specs.Size.{coefficients, small_power}
-use Rattle.view.proofs.Numbers.{no_turn, one_more, all_turns}
 use Rattle.view.proofs.number.mul_by_omega_power.Given as goal
 
 abbrev pub invariant-loop-i : goal.invariant-loop-i

@@ -1,5 +1,4 @@
 -- `writing::Ending::letter` meets its contract. Assumes nothing.
-use borrow.Author.Rules.{rules}
 use native.Mathlib.Omega.{arith}
 use Rattle.writing.specs.Runs.{run_letter_lem}
 use Rattle.writing.proofs.Ending.letter.Goals as goal

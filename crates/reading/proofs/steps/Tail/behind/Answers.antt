@@ -1,5 +1,4 @@
 -- `reading::steps::Tail::behind` meets its contract. Assumes nothing.
-use borrow.Author.Rules.{rules}
 use Rattle.reading.specs.Steps.{gained}
 use Rattle.reading.proofs.steps.Tail.behind.Goals as goal
 

@@ -1,5 +1,4 @@
 -- `reading::steps::Tail::size` meets its contract. Assumes nothing.
-use borrow.Author.Rules.{rules}
 use Rattle.reading.specs.Steps.{size_none, size_some}
 use Rattle.reading.proofs.steps.Tail.size.Goals as goal
 

@@ -1,5 +1,4 @@
 -- `reading::steps::Tail::split` meets its contract. Assumes nothing.
-use borrow.Author.Rules.{rules}
 use Rattle.reading.specs.Steps.{code_narrow, phase_narrow, split_at_lem}
 use Rattle.reading.proofs.steps.Tail.split.Goals as goal
 

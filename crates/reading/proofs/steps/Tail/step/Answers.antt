@@ -1,7 +1,6 @@
 -- `reading::steps::Tail::step` meets its contract. Assumes nothing.
 use Prim.Native.Nat.{◌%◌, ◌<◌}
 use native.Mathlib.Omega.{arith}
-use borrow.Author.Rules.{rules}
 use Rattle.reading.specs.Steps.{change_of, row_of, row_few, change_few, more_few, stepped}
 use Rattle.reading.proofs.steps.Tail.step.Goals as goal
 
