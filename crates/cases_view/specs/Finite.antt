@@ -5,7 +5,7 @@ use Rattle.std.specs.Float.Ieee.{is_nan, of_bits}
 use Rattle.std.specs.Float.Ieee.Exact.{HasValue}
 use Rattle.exact.specs.Meaning.Triple.{Triple}
 use Rattle.exact.specs.Meaning.Refusals.{checks}
-use Rattle.exact.specs.Outcomes.Ladder.{always}
+use Rattle.exact.proofs.Outcomes.Ladder.{always}
 use Rattle.ring.specs.Meaning.{quad}
 use Rattle.ring.specs.declared.ZOmega.{ZOmega}
 use Rattle.unitary.specs.Meaning.{given}

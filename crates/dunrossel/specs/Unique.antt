@@ -8,15 +8,15 @@ use Rattle.exact.specs.Meaning.Lent as Lent
 use Rattle.exact.specs.Meaning.Lent.{lent}
 use Rattle.exact.specs.Meaning.Refusals.{checks, malformed}
 use Rattle.exact.specs.Meaning.Record.{Numbers}
-use Rattle.exact.specs.Outcomes.Ladder.{Only, one_outcome, one_handed}
-use Rattle.exact.specs.Outcomes.Places.{one_plain}
-use Rattle.exact.specs.Outcomes.Checked.{checks_one}
-use Rattle.exact.specs.Outcomes.Lent.{one_written}
+use Rattle.exact.proofs.Outcomes.Ladder.{Only, one_outcome, one_handed}
+use Rattle.exact.proofs.Outcomes.Places.{one_plain}
+use Rattle.exact.proofs.Outcomes.Checked.{checks_one}
+use Rattle.exact.proofs.Outcomes.Lent.{one_written}
 use Rattle.record.specs.RecordLaws.{record_once}
 use Rattle.dunrossel.specs.Meaning.Bench.{refused, word_text, word_size, asked, NumbersOutcome, OfRecord, BenchOutcome}
 use Rattle.unitary.specs.Unique.{reduce_unique, matrix_unique}
 use Rattle.normal_form.specs.Unique.{outcome_unique}
-use Rattle.clifford.specs.Unique.{Product-unique, Inverse-unique, Split-unique}
+use Rattle.clifford.proofs.Unique.{Product-unique, Inverse-unique, Split-unique}
 use Rattle.synthesis_of_clifford_t.specs.declared.Synthesis.{Synthesis}
 use Rattle.synthesis_of_clifford_t.specs.Meaning.{SpellingOf}
 use Rattle.synthesis_of_clifford_t.specs.Counted.{one_spelling}

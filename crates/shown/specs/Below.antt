@@ -4,9 +4,9 @@ use Rattle.std.proofs.Common.{sym, ◌∙◌, ap, subst, arith, ltb-true, SFits,
 use Rattle.std.proofs.Math.IntN.{suc_ℤ, +ℤ_one, +ℤ_idl}
 use Rattle.std.specs.Int.Signed.{lt_z, non_neg}
 use Rattle.std.specs.Int.{w64}
-use Rattle.exact.specs.Whole.Machine.{held}
-use Rattle.exact.specs.Whole.Parity.{false_true}
-use Rattle.exact.specs.Whole.Size.{sfits_abs}
+use Rattle.exact.proofs.Whole.Machine.{held}
+use Rattle.exact.proofs.Whole.Parity.{false_true}
+use Rattle.exact.proofs.Whole.Size.{sfits_abs}
 
 abbrev above : ℤ → ℤ
 above x = held w64 x +ℤ pos 1

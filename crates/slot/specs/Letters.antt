@@ -7,12 +7,12 @@ use Rattle.std.proofs.Math.ListN.{get_or-eq_default}
 use Rattle.exact.specs.Meaning.Word.{Letter, I, H, S, X, W, T', tee, tees}
 use Rattle.exact.specs.Meaning.Normal.{Shape, spell, tail_word, or_i}
 use Rattle.exact.specs.Meaning.Limits.{longest}
-use Rattle.exact.specs.Matrices.Same.{Same-sym, Same-trans}
-use Rattle.exact.specs.Unique.Normal.{shape_unique}
-use Rattle.exact.specs.Unique.Tails.{tees_append, or_i_tail_tees}
+use Rattle.exact.proofs.Matrices.Same.{Same-sym, Same-trans}
+use Rattle.exact.proofs.Unique.Normal.{shape_unique}
+use Rattle.exact.proofs.Unique.Tails.{tees_append, or_i_tail_tees}
 use Rattle.clifford.specs.Meaning.{Ranged}
 use Rattle.clifford.specs.Cliffords.{split_c}
-use Rattle.clifford.specs.Words.{by_sym, ◌⨾◌, before}
+use Rattle.clifford.proofs.Words.{by_sym, ◌⨾◌, before}
 use Rattle.reading.specs.Readings.{State, start, read, run, read_ranged, run_ranged, start_ranged, read_same, normal_same, normal_of}
 use Rattle.reading.specs.Readings.{shape_of, shape, size_of, read_size, prefix, prefix_tees, spelled, tail_at, fits}
 use Rattle.reading.specs.Held as Held

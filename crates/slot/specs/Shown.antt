@@ -7,10 +7,11 @@ use Rattle.exact.specs.Meaning.Word.{word}
 use Rattle.exact.specs.Meaning.Normal.{Syllable, HT, SHT, Shape, tail_word, spell}
 use Rattle.exact.specs.Meaning.Clifford.{Clifford, clifford}
 use Rattle.exact.specs.Meaning.Limits.{longest}
-use Rattle.exact.specs.Matrices.Same.{Same-sym, Same-trans}
-use Rattle.exact.specs.Unique.Tails.{tail_unique, clifford_unique}
+use Rattle.exact.proofs.Matrices.Same.{Same-sym, Same-trans}
+use Rattle.exact.proofs.Unique.Tails.{tail_unique, clifford_unique}
 use Rattle.clifford.specs.Meaning.{Ranged, quad}
-use Rattle.clifford.specs.Cliffords.{split_c, split_right}
+use Rattle.clifford.specs.Cliffords.{split_c}
+use Rattle.clifford.proofs.Cliffords.{split_right}
 use Rattle.reading.specs.Syllables.{syllable_number, named}
 use Rattle.reading.specs.Readings.{State, turned, shape_of, size_of, text_size, fits, tail_is}
 use Rattle.reading.specs.Held as Held

@@ -10,7 +10,8 @@ use Rattle.exact.specs.Meaning.Limits.{longest}
 use Rattle.clifford.specs.declared.Clifford.{Clifford}
 use Rattle.clifford.specs.declared.Axis.{Axis}
 use Rattle.clifford.specs.Meaning.{Ranged, axis_number}
-use Rattle.clifford.specs.Cliffords.{split_c, split_right}
+use Rattle.clifford.specs.Cliffords.{split_c}
+use Rattle.clifford.proofs.Cliffords.{split_right}
 use Rattle.clifford.specs.Tables.{quadruple}
 use Rattle.reading.specs.declared.Text.{Text}
 use Rattle.reading.specs.declared.Reading.{Reading}

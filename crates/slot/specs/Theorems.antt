@@ -8,9 +8,9 @@ use Rattle.exact.specs.Meaning.Normal.{Shape, spell, NormalOf}
 use Rattle.exact.specs.Meaning.Limits as Limits
 use Rattle.exact.specs.Meaning.Limits.{no_refusal, longest}
 use Rattle.exact.specs.Meaning.Outcome.{Rung, none, ◌then◌}
-use Rattle.exact.specs.Cases.Letters.{byte_inj}
-use Rattle.exact.specs.Outcomes.Ladder.{accepted}
-use Rattle.exact.specs.Outcomes.Places.{of_bytes, one_normal}
+use Rattle.exact.proofs.Cases.Letters.{byte_inj}
+use Rattle.exact.proofs.Outcomes.Ladder.{accepted}
+use Rattle.exact.proofs.Outcomes.Places.{of_bytes, one_normal}
 use Rattle.clifford.specs.Meaning.{Ranged}
 use Rattle.reading.specs.Readings.{State, start, run, run_append, run_ranged, start_ranged, shape, shape_of, normal, normal_of, read, read_size, size_of}
 use Rattle.normal_form.specs.declared.Written.{Written}

@@ -5,12 +5,13 @@ use Rattle.exact.specs.Meaning.Matrix.{Same}
 use Rattle.exact.specs.Meaning.Word.{Letter, word}
 use Rattle.exact.specs.Meaning.Normal.{Shape, spell, NormalOf}
 use Rattle.exact.specs.Meaning.Outcome.{none, ◌then◌}
-use Rattle.exact.specs.Cases.Letters.{byte_inj}
-use Rattle.exact.specs.Matrices.Same.{Same-sym, Same-trans}
-use Rattle.exact.specs.Unique.Normal.{shape_unique}
-use Rattle.exact.specs.Outcomes.Ladder.{Only, one_outcome}
-use Rattle.exact.specs.Outcomes.Places.{one_plain, one_normal}
-use Rattle.clifford.specs.Words.{◌≈◌, before}
+use Rattle.exact.proofs.Cases.Letters.{byte_inj}
+use Rattle.exact.proofs.Matrices.Same.{Same-sym, Same-trans}
+use Rattle.exact.proofs.Unique.Normal.{shape_unique}
+use Rattle.exact.proofs.Outcomes.Ladder.{Only, one_outcome}
+use Rattle.exact.proofs.Outcomes.Places.{one_plain, one_normal}
+use Rattle.clifford.specs.Words.{◌≈◌}
+use Rattle.clifford.proofs.Words.{before}
 use Rattle.reading.specs.Readings.{start, run, run_ranged, start_ranged, shape, normal_of, fits}
 use Rattle.slot.specs.Meaning.{Slot, Shows, GivenBy, slot, refused, long, Measured, LengthOutcome, left, Extended, add_refusals, AddOutcome}
 use Rattle.slot.specs.Shown.{one_slot, one_shape}

@@ -6,8 +6,8 @@ use Rattle.exact.specs.Meaning.Normal.{Shape, spell, Normal}
 use Rattle.exact.specs.Meaning.Limits as Limits
 use Rattle.exact.specs.Meaning.Limits.{no_refusal}
 use Rattle.exact.specs.Meaning.Outcome.{Rung, none, ◌then◌, Outcome}
-use Rattle.exact.specs.Cases.Letters.{byte_inj, letter_back}
-use Rattle.exact.specs.Matrices.Same.{Same-of}
+use Rattle.exact.proofs.Cases.Letters.{byte_inj, letter_back}
+use Rattle.exact.proofs.Matrices.Same.{Same-of}
 use Rattle.clifford.specs.declared.Clifford.{Clifford}
 use Rattle.clifford.specs.Meaning.{Ranged}
 use Rattle.reading.specs.declared.Added.{Added}

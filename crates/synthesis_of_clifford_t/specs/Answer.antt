@@ -9,12 +9,12 @@ use Rattle.exact.specs.Meaning.Limits.{deepest, no_refusal}
 use Rattle.exact.specs.Meaning.Outcome.{Rung, none, ◌then◌}
 use Rattle.exact.specs.Meaning.Lent.{Lent, lent, untouched, Writes}
 use Rattle.exact.specs.Meaning.Refusals.{long, letter, room}
-use Rattle.exact.specs.Whole.Machine.{held}
-use Rattle.exact.specs.Matrices.Same.{Same-sym, Same-trans}
-use Rattle.exact.specs.Matrices.Triples.{unitary_same}
-use Rattle.exact.specs.Outcomes.Ladder.{Passed, skip}
-use Rattle.exact.specs.Outcomes.Places.{of_bytes}
-use Rattle.exact.specs.Outcomes.Lent.{Written, written_as}
+use Rattle.exact.proofs.Whole.Machine.{held}
+use Rattle.exact.proofs.Matrices.Same.{Same-sym, Same-trans}
+use Rattle.exact.proofs.Matrices.Triples.{unitary_same}
+use Rattle.exact.proofs.Outcomes.Ladder.{Passed, skip}
+use Rattle.exact.proofs.Outcomes.Places.{of_bytes}
+use Rattle.exact.proofs.Outcomes.Lent.{Written, written_as}
 use Rattle.ring.specs.declared.ZOmega.{ZOmega}
 use Rattle.unitary.specs.declared.DOmegaUnitary.{DOmegaUnitary}
 use Rattle.unitary.specs.Meaning.{triple, given, Answers}
@@ -28,7 +28,8 @@ use Rattle.normal_form.specs.Ways.{word_passes}
 use Rattle.writing.specs.Put.{Put}
 use Rattle.synthesis_of_clifford_t.specs.declared.Synthesis.{Synthesis}
 use Rattle.steps.specs.Step.{Ready}
-use Rattle.steps.specs.Steps.{letters, letters_same, steps}
+use Rattle.steps.specs.Steps.{letters, steps}
+use Rattle.steps.proofs.Steps.{letters_same}
 use Rattle.steps.specs.Counts.{letters_length}
 use Rattle.synthesis_of_clifford_t.specs.Meaning.{Spelling, text, refused, counts, SpellingOf, SynthesiseOutcome}
 use Rattle.synthesis_of_clifford_t.specs.Counted.{steps_of, spelling_moved}

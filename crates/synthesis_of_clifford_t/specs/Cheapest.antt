@@ -4,9 +4,9 @@ use Rattle.std.specs.Prelude.{◌≡◌, List, ℕ, ◌%◌, ℤ, take}
 use Rattle.std.proofs.Common.{◌∙◌, ap}
 use Rattle.exact.specs.Meaning.Limits.{no_refusal}
 use Rattle.exact.specs.Meaning.Lent.{lent, Writes}
-use Rattle.exact.specs.Matrices.Parity.{tees_n}
-use Rattle.exact.specs.Matrices.Same.{Same-sym}
-use Rattle.exact.specs.Unique.Cheapest.{SpelledCheapest, normal_spelled}
+use Rattle.exact.proofs.Matrices.Parity.{tees_n}
+use Rattle.exact.proofs.Matrices.Same.{Same-sym}
+use Rattle.exact.proofs.Unique.Cheapest.{SpelledCheapest, normal_spelled}
 use Rattle.ring.specs.declared.ZOmega.{ZOmega}
 use Rattle.unitary.specs.Meaning.{given}
 use Rattle.synthesis_of_clifford_t.specs.declared.Synthesis.{Synthesis}

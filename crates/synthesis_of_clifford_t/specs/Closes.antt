@@ -11,8 +11,8 @@ use Rattle.exact.specs.Meaning.Number.{Ω, ints, mul_q, odd, residue, omega^}
 use Rattle.exact.specs.Meaning.Word.{Letter, byte, bytes, T'}
 use Rattle.exact.specs.Meaning.Normal.{times}
 use Rattle.exact.specs.Meaning.Triple.{Triple}
-use Rattle.exact.specs.Whole.Parity.{false_true}
-use Rattle.exact.specs.Whole.Machine.{held, arg}
+use Rattle.exact.proofs.Whole.Parity.{false_true}
+use Rattle.exact.proofs.Whole.Machine.{held, arg}
 use Rattle.exact.specs.Algebra.OmegaPower.{which}
 use Rattle.ring.specs.declared.ZOmega.{ZOmega}
 use Rattle.ring.specs.Meaning.{quad}
@@ -26,7 +26,8 @@ use Rattle.writing.specs.Endings.{end_word, end_size}
 use Rattle.writing.specs.Codes.{bytes_append}
 use Rattle.synthesis_of_clifford_t.specs.declared.Closing as declared
 use Rattle.steps.specs.Residues.{back}
-use Rattle.steps.specs.Closing.{is_zero, swaps, phase, closing, phase_few, Last, diagonal, swapped, last, length_times}
+use Rattle.steps.specs.Closing.{is_zero, swaps, phase, closing}
+use Rattle.steps.proofs.Closing.{phase_few, Last, diagonal, swapped, last, length_times}
 use Rattle.synthesis_of_clifford_t.specs.Code.{small_turned}
 
 -- ---- which power of omega

@@ -7,12 +7,13 @@ use Rattle.exact.specs.Meaning.Number.{Ω, ints, add_q, neg_q, mul_q, omega', om
 use Rattle.exact.specs.Meaning.Word.{H}
 use Rattle.exact.specs.Meaning.Triple.{Triple}
 use Rattle.exact.specs.Meaning.Limits.{deepest}
-use Rattle.exact.specs.Algebra.Omega.{omegas_laws}
+use Rattle.exact.proofs.Algebra.Omega.{omegas_laws}
 use Rattle.exact.specs.Algebra.Twos.{Multiple}
 use Rattle.exact.specs.Matrices.Triples.{act}
-use Rattle.exact.specs.Matrices.Divided.{Divided, divided_once}
+use Rattle.exact.specs.Matrices.Divided.{Divided}
+use Rattle.exact.proofs.Matrices.Divided.{divided_once}
 use Rattle.exact.specs.Matrices.Least.{mod_eight}
-use Rattle.exact.specs.Matrices.Sizes.{z_sized, w_sized, sized_le, add_sized, neg_sized, omega_sized}
+use Rattle.exact.proofs.Matrices.Sizes.{z_sized, w_sized, sized_le, add_sized, neg_sized, omega_sized}
 use Rattle.ring.specs.Meaning.{quad}
 use Rattle.ring.specs.Number.{Small}
 use Rattle.unitary.specs.declared.DOmegaUnitary.{DOmegaUnitary}
@@ -22,11 +23,13 @@ use Rattle.unitary.specs.Checks.{both_test}
 use Rattle.synthesis_of_clifford_t.specs.declared.Reduction as declared
 use Rattle.synthesis_of_clifford_t.specs.declared.Reduction.TheVariants as variants
 use Rattle.steps.specs.Meaning.{power_by, power}
-use Rattle.steps.specs.Residues.{back, falls_by, power_by_few}
+use Rattle.steps.specs.Residues.{back, falls_by}
+use Rattle.steps.proofs.Residues.{power_by_few}
 use Rattle.steps.specs.Step.{Ready, Reduction, Ended, Stepped, reduction, falls, next}
-use Rattle.steps.specs.Step.{explicit, fallen, stayed, falls_even, stays_once}
-use Rattle.steps.specs.Step.{fallen_divided, stayed_divided, next_falls, next_stays}
-use Rattle.steps.specs.Synthesised.{reduction_stepped}
+use Rattle.steps.specs.Step.{explicit}
+use Rattle.steps.proofs.Step.{fallen, stayed, falls_even, stays_once}
+use Rattle.steps.proofs.Step.{fallen_divided, stayed_divided, next_falls, next_stays}
+use Rattle.steps.proofs.Synthesised.{reduction_stepped}
 
 -- a reduction's answer as the definition has it
 abbrev pub answer_of : declared.Reduction → Reduction

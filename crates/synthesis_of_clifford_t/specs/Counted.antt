@@ -4,16 +4,16 @@ use Rattle.std.proofs.Common.{subst}
 use Rattle.exact.specs.Meaning.Matrix.{Matrix, Same}
 use Rattle.exact.specs.Meaning.Word.{Letter, word}
 use Rattle.exact.specs.Meaning.Triple.{Triple, entries}
-use Rattle.exact.specs.Matrices.Same.{Same-sym, Same-trans, Same-of}
-use Rattle.exact.specs.Matrices.Triples.{unitary_same, word_triple, word_unitary}
-use Rattle.exact.specs.Matrices.Least.{answer_unique}
-use Rattle.exact.specs.Outcomes.Ladder.{Only}
-use Rattle.exact.specs.Outcomes.Places.{one_normal}
+use Rattle.exact.proofs.Matrices.Same.{Same-sym, Same-trans, Same-of}
+use Rattle.exact.proofs.Matrices.Triples.{unitary_same, word_triple, word_unitary}
+use Rattle.exact.proofs.Matrices.Least.{answer_unique}
+use Rattle.exact.proofs.Outcomes.Ladder.{Only}
+use Rattle.exact.proofs.Outcomes.Places.{one_normal}
 use Rattle.unitary.specs.Meaning.{Answers}
 use Rattle.steps.specs.Meaning.{Takes}
 use Rattle.steps.specs.Step.{Ready}
 use Rattle.steps.specs.Steps.{steps}
-use Rattle.steps.specs.Followed.{takes_steps, takes_once}
+use Rattle.steps.proofs.Followed.{takes_steps, takes_once}
 use Rattle.synthesis_of_clifford_t.specs.Meaning.{Spelling, StepsOf, SpellingOf}
 
 pub steps_of : (t : Triple) → Ready t → t.n < 8 → StepsOf (entries t) (steps t)

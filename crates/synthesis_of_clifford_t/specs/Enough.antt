@@ -8,17 +8,18 @@ use Rattle.exact.specs.Meaning.Triple.{entries}
 use Rattle.exact.specs.Meaning.Limits.{enough}
 use Rattle.exact.specs.Meaning.Lent.{Lent, lent, untouched, Writes}
 use Rattle.exact.specs.Meaning.Refusals.{handed_in}
-use Rattle.exact.specs.Matrices.Same.{Same-sym, Same-trans}
-use Rattle.exact.specs.Matrices.Least.{reduce, reduce_reduces}
-use Rattle.exact.specs.Cases.Letters.{bytes_length}
-use Rattle.exact.specs.Outcomes.Ladder.{always}
-use Rattle.exact.specs.Outcomes.Checked.{Taken, checks_taken}
-use Rattle.exact.specs.Outcomes.Lent.{written_there}
+use Rattle.exact.proofs.Matrices.Same.{Same-sym, Same-trans}
+use Rattle.exact.specs.Matrices.Least.{reduce}
+use Rattle.exact.proofs.Matrices.Least.{reduce_reduces}
+use Rattle.exact.proofs.Cases.Letters.{bytes_length}
+use Rattle.exact.proofs.Outcomes.Ladder.{always}
+use Rattle.exact.proofs.Outcomes.Checked.{Taken, checks_taken}
+use Rattle.exact.proofs.Outcomes.Lent.{written_there}
 use Rattle.ring.specs.Meaning.{quad}
 use Rattle.ring.specs.declared.ZOmega.{ZOmega}
 use Rattle.unitary.specs.Checks.{exponent_size}
-use Rattle.steps.specs.Synthesised.{reduce_ready}
-use Rattle.steps.specs.Counts.{answer_enough}
+use Rattle.steps.proofs.Synthesised.{reduce_ready}
+use Rattle.steps.proofs.Counts.{answer_enough}
 use Rattle.synthesis_of_clifford_t.specs.declared.Synthesis.{Synthesis}
 use Rattle.synthesis_of_clifford_t.specs.Meaning.{text, refused, counts, SpellingOf, asked, refusals, SynthesiseOutcome}
 

@@ -5,11 +5,15 @@ use Rattle.std.proofs.Common.{sym, ◌∙◌, ap, append_assoc, zero-add, arith,
 use Rattle.exact.specs.Meaning.Word.{Letter}
 use Rattle.exact.specs.Meaning.Triple.{Triple}
 use Rattle.steps.specs.Meaning.{power}
-use Rattle.steps.specs.Step.{Ready, block, next, next_ready, next_n}
-use Rattle.steps.specs.Closing.{closing, closing_length}
-use Rattle.steps.specs.Steps.{left, left_few, left_next, letters, letters_end, letters_more}
-use Rattle.steps.specs.Steps.{steps, steps_end, steps_more}
-use Rattle.steps.specs.Counts.{block_length}
+use Rattle.steps.specs.Step.{Ready, block, next}
+use Rattle.steps.proofs.Step.{next_ready, next_n}
+use Rattle.steps.specs.Closing.{closing}
+use Rattle.steps.proofs.Closing.{closing_length}
+use Rattle.steps.specs.Steps.{left, letters}
+use Rattle.steps.proofs.Steps.{left_few, left_next, letters_end, letters_more}
+use Rattle.steps.specs.Steps.{steps}
+use Rattle.steps.proofs.Steps.{steps_end, steps_more}
+use Rattle.steps.proofs.Counts.{block_length}
 
 pub record Progress (s t : Triple) (u : List Letter) (i : ℕ) : Type 0 where
   pub ready : Ready t

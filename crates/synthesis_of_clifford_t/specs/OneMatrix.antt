@@ -7,19 +7,19 @@ use Rattle.exact.specs.Meaning.Matrix.{Same}
 use Rattle.exact.specs.Meaning.Triple.{Triple}
 use Rattle.exact.specs.Meaning.Limits.{deepest, no_refusal}
 use Rattle.exact.specs.Meaning.Lent.{Lent, lent, untouched, Writes}
-use Rattle.exact.specs.Cases.Letters.{bytes_length}
-use Rattle.exact.specs.Algebra.Norm.{norm}
-use Rattle.exact.specs.Outcomes.Ladder.{Passed, accepted, always}
-use Rattle.exact.specs.Outcomes.Checked.{checks_taken}
-use Rattle.exact.specs.Outcomes.Lent.{text_there}
+use Rattle.exact.proofs.Cases.Letters.{bytes_length}
+use Rattle.exact.proofs.Algebra.Norm.{norm}
+use Rattle.exact.proofs.Outcomes.Ladder.{Passed, accepted, always}
+use Rattle.exact.proofs.Outcomes.Checked.{checks_taken}
+use Rattle.exact.proofs.Outcomes.Lent.{text_there}
 use Rattle.ring.specs.Meaning.{quad}
 use Rattle.ring.specs.declared.ZOmega.{ZOmega}
 use Rattle.unitary.specs.Meaning.{Answers}
 use Rattle.unitary.specs.Checks.{exponent_size}
 use Rattle.steps.specs.Meaning.{Takes}
 use Rattle.steps.specs.Step.{Ready}
-use Rattle.steps.specs.Followed.{takes_few}
-use Rattle.steps.specs.Exactly.{takes_0001, takes_1010, takes_under}
+use Rattle.steps.proofs.Followed.{takes_few}
+use Rattle.steps.proofs.Exactly.{takes_0001, takes_1010, takes_under}
 use Rattle.synthesis_of_clifford_t.specs.declared.Synthesis.{Synthesis}
 use Rattle.synthesis_of_clifford_t.specs.Meaning.{Spelling, text, refused, counts, SpellingOf, asked, refusals, SynthesiseOutcome}
 use Rattle.synthesis_of_clifford_t.specs.Counted.{answer_ready, steps_from, spelling_moved, one_spelling}

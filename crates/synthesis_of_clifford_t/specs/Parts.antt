@@ -14,16 +14,18 @@ use Rattle.unitary.specs.declared.DOmegaUnitary.{DOmegaUnitary}
 use Rattle.unitary.specs.Meaning.{triple}
 use Rattle.unitary.specs.Acts.{Good}
 use Rattle.writing.specs.Put.{Put, put_none, put_length, put_more}
-use Rattle.exact.specs.Cases.Letters.{bytes_length}
+use Rattle.exact.proofs.Cases.Letters.{bytes_length}
 use Rattle.writing.specs.Codes.{bytes_append}
 use Rattle.synthesis_of_clifford_t.specs.declared.Reduction as declared
 use Rattle.synthesis_of_clifford_t.specs.declared.Reduction.TheVariants as variants
 use Rattle.steps.specs.Meaning.{power}
-use Rattle.steps.specs.Step.{Stepped, reduction, block, power_few, next}
+use Rattle.steps.specs.Step.{Stepped, reduction, block, next}
+use Rattle.steps.proofs.Step.{power_few}
 use Rattle.steps.specs.Closing.{closing}
-use Rattle.steps.specs.Steps.{left, left_next, letters, steps}
-use Rattle.steps.specs.Counts.{block_length}
-use Rattle.steps.specs.Synthesised.{reduction_stepped}
+use Rattle.steps.specs.Steps.{left, letters, steps}
+use Rattle.steps.proofs.Steps.{left_next}
+use Rattle.steps.proofs.Counts.{block_length}
+use Rattle.steps.proofs.Synthesised.{reduction_stepped}
 use Rattle.synthesis_of_clifford_t.specs.Loop.{Progress, progress_start, progress_step, progress_room}
 use Rattle.synthesis_of_clifford_t.specs.Loop.{progress_letters, progress_steps, progress_length}
 use Rattle.synthesis_of_clifford_t.specs.Code.{answer_of, good_ready}

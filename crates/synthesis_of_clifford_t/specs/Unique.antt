@@ -1,9 +1,9 @@
 -- Two outcomes that job 4 allows for one input are equal. Assumes nothing.
 use Rattle.std.specs.Prelude.{◌≡◌, List, ℕ, ℤ}
 use Rattle.exact.specs.Meaning.Lent.{lent, untouched, Writes}
-use Rattle.exact.specs.Outcomes.Ladder.{one_outcome}
-use Rattle.exact.specs.Outcomes.Places.{one_plain}
-use Rattle.exact.specs.Outcomes.Lent.{one_written}
+use Rattle.exact.proofs.Outcomes.Ladder.{one_outcome}
+use Rattle.exact.proofs.Outcomes.Places.{one_plain}
+use Rattle.exact.proofs.Outcomes.Lent.{one_written}
 use Rattle.ring.specs.declared.ZOmega.{ZOmega}
 use Rattle.synthesis_of_clifford_t.specs.declared.Synthesis.{Synthesis}
 use Rattle.synthesis_of_clifford_t.specs.Meaning.{text, refused, counts, SpellingOf, asked, refusals, SynthesiseOutcome}

@@ -7,13 +7,14 @@ use Rattle.exact.specs.Meaning.Word.{Letter, I, H, T', word, tees}
 use Rattle.exact.specs.Meaning.Triple.{Triple, entries}
 use Rattle.exact.specs.Meaning.Lent.{Lent, lent, over, untouched, Writes}
 use Rattle.exact.specs.Meaning.Refusals.{InExponents, TooMany}
-use Rattle.exact.specs.Cases.Letters.{bytes_length}
-use Rattle.exact.specs.Cases.NormalTest.{normal_test, normal_by}
-use Rattle.exact.specs.Matrices.Least.{reduce, reduce_reduces}
-use Rattle.exact.specs.Matrices.Test.{same_test, same_by}
-use Rattle.exact.specs.Outcomes.Ladder.{answered}
-use Rattle.exact.specs.Outcomes.Checked.{Taken, taken_checks}
-use Rattle.exact.specs.Outcomes.Lent.{handed_same}
+use Rattle.exact.proofs.Cases.Letters.{bytes_length}
+use Rattle.exact.proofs.Cases.NormalTest.{normal_test, normal_by}
+use Rattle.exact.specs.Matrices.Least.{reduce}
+use Rattle.exact.proofs.Matrices.Least.{reduce_reduces}
+use Rattle.exact.proofs.Matrices.Test.{same_test, same_by}
+use Rattle.exact.proofs.Outcomes.Ladder.{answered}
+use Rattle.exact.proofs.Outcomes.Checked.{Taken, taken_checks}
+use Rattle.exact.proofs.Outcomes.Lent.{handed_same}
 use Rattle.ring.specs.Meaning.{quad}
 use Rattle.ring.specs.declared.ZOmega.{ZOmega}
 use Rattle.unitary.specs.Meaning.{given}
@@ -23,7 +24,7 @@ use Rattle.steps.specs.Residues.{back}
 use Rattle.steps.specs.Step.{block, next}
 use Rattle.steps.specs.Closing.{closing}
 use Rattle.steps.specs.Steps.{gathered, letters, steps}
-use Rattle.steps.specs.Synthesised.{reduce_ready}
+use Rattle.steps.proofs.Synthesised.{reduce_ready}
 use Rattle.synthesis_of_clifford_t.specs.Meaning.{Spelling, text, refused, counts, SpellingOf, asked, refusals, SynthesiseOutcome}
 use Rattle.synthesis_of_clifford_t.specs.Counted.{steps_of, steps_moved, one_spelling}
 use Rattle.synthesis_of_clifford_t.specs.Unique.{synthesise_unique}

@@ -4,9 +4,9 @@ use Rattle.std.specs.Prelude.{◌≡◌, refl, Bool, true, false, not, cond, [],
 use Rattle.std.proofs.Common.{sym, ◌∙◌, ap, ap₂, subst, le_trans, le_of_suc-le-suc, lt_of_not-le, not-le_of_lt, le_of_lt, lt_of_le_of_lt, mul-le-mul_left, mul-lt-mul_of_pos_right, arith, eqb→eq, pow-add, pow_mono}
 use Rattle.exact.specs.Meaning.Number.{Ω, ints, Sized, mul_q, neg_q, conj_q, omega', omega^}
 use Rattle.exact.specs.Meaning.Triple.{Triple, squares, Unitary}
-use Rattle.exact.specs.Algebra.Ring.{ints_laws}
-use Rattle.exact.specs.Algebra.Solver.{con, ◌⊕◌, ◌⊗◌, ◌⊝◌, exprs, solve, ring₁, ring₂}
-use Rattle.exact.specs.Algebra.Omega.{omegas_laws, X₀, X₁, parts}
+use Rattle.exact.proofs.Algebra.Ring.{ints_laws}
+use Rattle.exact.proofs.Algebra.Solver.{con, ◌⊕◌, ◌⊗◌, ◌⊝◌, exprs, solve, ring₁, ring₂}
+use Rattle.exact.proofs.Algebra.Omega.{omegas_laws, X₀, X₁, parts}
 use Rattle.view.specs.Meaning.Surd.{Surd, even, over, real, imaginary}
 
 -- the squares' sum

@@ -4,10 +4,10 @@
 use Rattle.std.specs.Prelude.{◌≡◌, Bool, true, false, not, cond, [], ◌∷◌, ℕ, suc, ◌+◌, ◌/◌, ◌%◌, ◌^◌, T, eqb, ℤ, pos, ◌+ℤ◌, ◌-ℤ◌, ◌*ℤ◌}
 use Rattle.std.proofs.Common.{sym, ◌∙◌, ap, ap₂, subst, arith, eqb→eq, pow-add}
 use Rattle.exact.specs.Meaning.Number.{Quad, Ω, ints, omegas, quads, power, add_q, const_q, mul_q, neg_q, conj_q, omega', omega^, root2, root2^}
-use Rattle.exact.specs.Algebra.Ring.{ints_laws}
-use Rattle.exact.specs.Algebra.Solver.{Expr, var, con, ◌⊕◌, ◌⊗◌, ◌⊝◌, exprs, solve, ring₄}
-use Rattle.exact.specs.Algebra.Omega.{omegas_laws, root2^_add, X₀, parts, solve_q}
-use Rattle.exact.specs.Algebra.Norm.{two^}
+use Rattle.exact.proofs.Algebra.Ring.{ints_laws}
+use Rattle.exact.proofs.Algebra.Solver.{Expr, var, con, ◌⊕◌, ◌⊗◌, ◌⊝◌, exprs, solve, ring₄}
+use Rattle.exact.proofs.Algebra.Omega.{omegas_laws, root2^_add, X₀, parts, solve_q}
+use Rattle.exact.proofs.Algebra.Norm.{two^}
 use Rattle.view.specs.Meaning.Surd.{Surd, even, over, real, imaginary}
 
 -- A + B·root two as a ring number

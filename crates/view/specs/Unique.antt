@@ -3,8 +3,8 @@ use Rattle.std.specs.Prelude.{◌≡◌, ℕ, ℤ, Float}
 use Rattle.std.proofs.Common.{sym, ◌∙◌}
 use Rattle.exact.specs.Meaning.Triple.{Triple}
 use Rattle.exact.specs.Meaning.Refusals.{checks}
-use Rattle.exact.specs.Outcomes.Ladder.{Only, one_outcome}
-use Rattle.exact.specs.Outcomes.Checked.{checks_one}
+use Rattle.exact.proofs.Outcomes.Ladder.{Only, one_outcome}
+use Rattle.exact.proofs.Outcomes.Checked.{checks_one}
 use Rattle.ring.specs.Meaning.{quad}
 use Rattle.ring.specs.declared.ZOmega.{ZOmega}
 use Rattle.unitary.specs.Meaning.{given}

@@ -2,8 +2,8 @@
 use Rattle.std.specs.Prelude.{◌≡◌, refl, ℕ, pos}
 use Rattle.std.proofs.Common.{arith}
 use Rattle.exact.specs.Meaning.Refusals.{checks}
-use Rattle.exact.specs.Outcomes.Ladder.{answered}
-use Rattle.exact.specs.Outcomes.Checked.{Taken, taken_checks}
+use Rattle.exact.proofs.Outcomes.Ladder.{answered}
+use Rattle.exact.proofs.Outcomes.Checked.{Taken, taken_checks}
 use Rattle.ring.specs.Meaning.{quad}
 use Rattle.ring.specs.declared.ZOmega.{ZOmega}
 use Rattle.unitary.specs.Meaning.{given}

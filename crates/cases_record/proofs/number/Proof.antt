@@ -10,8 +10,9 @@ use lib.Signed.{le_z, non_neg}
 use mir.Syntax.{w64}
 use mir.Val.{Fits, SFits}
 use mir.ValLaws.{to_z-of_z}
-use Rattle.exact.specs.Whole.Linear.{int, difference}
-use Rattle.exact.specs.Whole.Machine.{held}
+use Rattle.exact.proofs.Whole.Linear.{int}
+use Rattle.exact.proofs.Whole.Linear.{difference}
+use Rattle.exact.proofs.Whole.Machine.{held}
 use borrow.Author.Rules.{rules}
 use Rattle.cases_record.proofs.number.Statement.{statement}
 use Rattle.cases_record.proofs.number.Tie as tie

@@ -7,7 +7,7 @@ use lib.IntN.{ℤ, pos, negsuc}
 use lib.Signed.{lt_z}
 use mir.Syntax.{w32, w64}
 use mir.Val.{SFits}
-use Rattle.exact.specs.Whole.Machine.{held}
+use Rattle.exact.proofs.Whole.Machine.{held}
 use borrow.Author.Rules.{rules}
 use Rattle.replay.proofs.jobs.narrow.Statement.{statement}
 use Rattle.replay.proofs.jobs.narrow.Tie as tie

@@ -4,7 +4,7 @@ use Prim.Native.Nat.{ℕ, ◌≤◌, ◌^◌}
 use lib.IntN.{◌+ℤ◌, ◌-ℤ◌}
 use mir.Syntax.{w64}
 use Rattle.exact.specs.Meaning.Number.{Sized}
-use Rattle.exact.specs.Whole.Machine.{held, arg, ◌∔◌, ◌∸◌}
+use Rattle.exact.proofs.Whole.Machine.{held, arg, ◌∔◌, ◌∸◌}
 use Rattle.ring.specs.Meaning.{quad}
 use Rattle.ring.specs.Code.{fits₁, is₁}
 use Rattle.ring.specs.declared.ZOmega.{ZOmega}
