@@ -15,6 +15,7 @@ use Rattle.steps.specs.Meaning.{power}
 use Rattle.steps.specs.Step.{Ready, block, next}
 use Rattle.steps.proofs.Closing.{closing_length, closing_tees, length_times}
 use Rattle.steps.specs.Steps.{letters}
+use Rattle.steps.specs.Counts.{FewLetters}
 use Rattle.steps.proofs.Steps.{letters_end, letters_more, letters_same}
 use Rattle.steps.specs.Steps.{steps}
 use Rattle.steps.proofs.Steps.{by_steps, steps_more, steps_few}
@@ -45,6 +46,9 @@ letters_steps =
     by_steps (λ t. length (letters t) ≤ 3 * steps t + 12)
     (λ t r e. omega (arith, ap length (letters_end t e), closing_length t r.unitary e))
     (λ t k r e h. omega (arith, more_length t k r e, (block_length (power t)).1, steps_more t k r e))
+
+pub letters_length : FewLetters
+letters_length t r = omega (arith, letters_steps t r, steps_few t r)
 
 pub letters_tees : (t : Triple) → Ready t → tees (letters t) ≤ 2 * t.k + 1
 letters_tees t r = omega (arith, by_step t r, steps_few t r)

@@ -1,7 +1,7 @@
 -- Step after step until k is 0: there are at most two for each k, and the letters are those of the steps and then the closing ones.
 -- Assumes nothing.
 use Rattle.std.specs.Prelude.{◌≡◌, refl, Bool, true, false, List, ◌++◌}
-use Rattle.std.proofs.Common.{◌∙◌, arith}
+use Rattle.std.proofs.Common.{sym, ◌∙◌, arith}
 use Rattle.std.proofs.Math.Path.{ap}
 use Prim.Native.Nat.{ℕ, zero, suc, ◌-◌, ◌*◌, ◌≤◌, ◌<◌}
 use Rattle.exact.specs.Meaning.Matrix.{Same}
@@ -15,7 +15,7 @@ use Rattle.steps.proofs.Step.{next_ready, step_same}
 use Rattle.steps.proofs.Step.{next_falls, next_stays, then_falls}
 use Rattle.steps.specs.Closing.{closing}
 use Rattle.steps.proofs.Closing.{closing_is}
-use Rattle.steps.specs.Steps.{left_by, left, gathered_end, gathered_more, letters, steps}
+use Rattle.steps.specs.Steps.{left_by, left, within, gathered, letters, steps}
 
 left_by_few : (b : Bool) (k : ℕ) → (2 * k - 1 ≤ left_by b k) × (left_by b k ≤ 2 * k)
 left_by_few true k = (omega arith, omega arith)
@@ -30,6 +30,47 @@ left_next t k r e = go (falls t) refl
     go : (b : Bool) → falls t ≡ b → left (next t) < left_by b t.k
     go true f = omega (arith, e, ap (λ s. s.k) (next_falls t k r e f), (left_few (next t)).1)
     go false f = omega (arith, e, ap (λ s. s.k) (next_stays t k r e f), ap (λ b. left_by b (next t).k) (then_falls t k r e f))
+
+-- ---- what is gathered on the way
+module _ (A : Type 0) (end : Triple → A) (more : Triple → A → A) where
+  within_end : (f : ℕ) (t : Triple) → t.k ≡ 0 → within A end more f t ≡ end t
+  within_end zero t e = refl
+  within_end (suc f) t e = ap (λ k. elim k [ zero ↦ end t | suc k ↦ more t (within A end more f (next t)) ]) e
+
+  within_more : (f : ℕ) (t : Triple) (k : ℕ) → t.k ≡ suc k → within A end more (suc f) t ≡ more t (within A end more f (next t))
+  within_more f t k e = ap (λ k. elim k [ zero ↦ end t | suc k ↦ more t (within A end more f (next t)) ]) e
+
+  -- more steps allowed than there are change nothing
+  enough : (f g : ℕ) (t : Triple) → Ready t → left t ≤ f → left t ≤ g → within A end more f t ≡ within A end more g t
+  enough zero g t r hf hg = sym (within_end g t (omega (arith, (left_few t).0)))
+  enough (suc f) zero t r hf hg = within_end (suc f) t (omega (arith, (left_few t).0))
+  enough (suc f) (suc g) t r hf hg =
+      go t.k refl (λ k e. enough f g (next t) (next_ready r.unitary) (fewer f k hf e) (fewer g k hg e))
+    where
+      fewer : (i k : ℕ) → left t ≤ suc i → t.k ≡ suc k → left (next t) ≤ i
+      fewer i k h e = omega (arith, left_next t k r e)
+
+      go : (k : ℕ) → t.k ≡ k → ((k : ℕ) → t.k ≡ suc k → within A end more f (next t) ≡ within A end more g (next t))
+          → within A end more (suc f) t ≡ within A end more (suc g) t
+      go zero e ih = within_end (suc f) t e ∙ sym (within_end (suc g) t e)
+      go (suc k) e ih = within_more f t k e ∙ ap (more t) (ih k e) ∙ sym (within_more g t k e)
+
+  pub gathered_end : (t : Triple) → t.k ≡ 0 → gathered A end more t ≡ end t
+  unfolding gathered
+  gathered_end t e = within_end (2 * t.k) t e
+
+  pub gathered_more : (t : Triple) (k : ℕ) → Ready t → t.k ≡ suc k → gathered A end more t ≡ more t (gathered A end more (next t))
+  unfolding gathered
+  gathered_more t k r e =
+      ap (λ f. within A end more f t) double
+      ∙ within_more (suc (2 * k)) t k e
+      ∙ ap (more t) (enough (suc (2 * k)) (2 * (next t).k) (next t) (next_ready r.unitary) fewer (left_few (next t)).1)
+    where
+      fewer : left (next t) ≤ suc (2 * k)
+      fewer = omega (arith, e, left_next t k r e, (left_few t).1)
+
+      double : 2 * t.k ≡ suc (suc (2 * k))
+      double = omega arith
 
 -- what holds where k is 0, and of a triple where it holds of the next one, holds of every reduced unitary triple
 pub by_steps : (P : Triple → Type 0)

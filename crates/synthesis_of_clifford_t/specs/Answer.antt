@@ -30,7 +30,7 @@ use Rattle.synthesis_of_clifford_t.specs.declared.Synthesis.{Synthesis}
 use Rattle.steps.specs.Step.{Ready}
 use Rattle.steps.specs.Steps.{letters, steps}
 use Rattle.steps.proofs.Steps.{letters_same}
-use Rattle.steps.specs.Counts.{letters_length}
+use Rattle.steps.proofs.Counts.{letters_length}
 use Rattle.synthesis_of_clifford_t.specs.Meaning.{Spelling, text, refused, counts, SpellingOf, SynthesiseOutcome}
 use Rattle.synthesis_of_clifford_t.specs.Counted.{steps_of, spelling_moved}
 
