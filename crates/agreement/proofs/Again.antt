@@ -16,8 +16,8 @@ use Rattle.normal_form.specs.Again.{phase_free_normalised, phase_free_twice}
 use Rattle.synthesis_of_clifford_t.specs.declared.Synthesis.{Synthesis}
 use Rattle.synthesis_of_clifford_t.specs.Meaning as Job4
 use Rattle.synthesis_of_clifford_t.specs.Meaning.{SpellingOf, SynthesiseOutcome}
-use Rattle.synthesis_of_clifford_t.specs.Enough.{bytes_there, bytes_few}
-use Rattle.synthesis_of_clifford_t.specs.OneMatrix.{answer_there, seen_is}
+use Rattle.synthesis_of_clifford_t.proofs.Enough.{bytes_there, bytes_few}
+use Rattle.synthesis_of_clifford_t.proofs.OneMatrix.{answer_there, seen_is}
 use Rattle.handed.specs.Meaning.{z_of, w_of, counts_of}
 use Rattle.dunrossel.specs.Meaning.Exports.{Writes, Synthesises}
 use Rattle.agreement.specs.Meaning.Agree.{handed_on}

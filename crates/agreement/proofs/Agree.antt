@@ -13,7 +13,7 @@ use Rattle.normal_form.specs.declared.Written.{Written}
 use Rattle.normal_form.specs.Meaning as Job3
 use Rattle.normal_form.specs.Meaning.{Normalises, WordOutcome, NormaliseOutcome, word_refusals}
 use Rattle.synthesis_of_clifford_t.specs.declared.Synthesis.{Synthesis}
-use Rattle.synthesis_of_clifford_t.specs.Enough.{bytes_there}
+use Rattle.synthesis_of_clifford_t.proofs.Enough.{bytes_there}
 use Rattle.agreement.specs.declared.Agreement.{Agreement}
 use Rattle.agreement.specs.Meaning.Demand3.{Within, Agreed}
 use Rattle.agreement.specs.Meaning.Agree.{earlier, handed_on, Job4Of, Second, AgreeOutcome}

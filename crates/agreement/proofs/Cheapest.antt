@@ -32,8 +32,8 @@ use Rattle.steps.specs.Steps.{letters}
 use Rattle.steps.proofs.Synthesised.{synthesised}
 use Rattle.synthesis_of_clifford_t.specs.declared.Synthesis.{Synthesis}
 use Rattle.synthesis_of_clifford_t.specs.Meaning.{Spelling, SpellingOf}
-use Rattle.synthesis_of_clifford_t.specs.OneMatrix.{seen}
-use Rattle.synthesis_of_clifford_t.specs.Cheapest.{synthesised_cheapest}
+use Rattle.synthesis_of_clifford_t.proofs.OneMatrix.{seen}
+use Rattle.synthesis_of_clifford_t.proofs.Cheapest.{synthesised_cheapest}
 use Rattle.rotation.specs.declared.Count.{Count}
 use Rattle.rotation.specs.Meaning.{refused_count, AnswersCount, CountOutcome}
 use Rattle.rotation.specs.Answers.{counted}

@@ -29,7 +29,7 @@ use Rattle.normal_form.specs.Meaning.{Normalises, NormaliseOutcome, word_refusal
 use Rattle.synthesis_of_clifford_t.specs.declared.Synthesis.{Synthesis}
 use Rattle.synthesis_of_clifford_t.specs.Meaning as Job4
 use Rattle.synthesis_of_clifford_t.specs.Meaning.{SpellingOf}
-use Rattle.synthesis_of_clifford_t.specs.Counted.{steps_moved, one_number}
+use Rattle.synthesis_of_clifford_t.proofs.Counted.{steps_moved, one_number}
 use Rattle.steps.proofs.Synthesised.{word_enough}
 use Rattle.agreement.specs.Meaning.Demand3.{Within, Synthesises, BothWays, Agreed, Seen, seen_first, seen_second, OneOutcome}
 

@@ -7,7 +7,7 @@ use Rattle.exact.specs.Meaning.Normal.{Shape, spell}
 use Rattle.exact.specs.Meaning.Limits.{no_refusal}
 use Rattle.normal_form.specs.Meaning.{Normalises}
 use Rattle.slot.specs.Meaning.{slot_of, Shows, GivenBy}
-use Rattle.slot.specs.Theorems.{job_text, job_long, length_own, add_own, add_given}
+use Rattle.slot.proofs.Theorems.{job_text, job_long, length_own, add_own, add_given}
 use Rattle.dunrossel.specs.Meaning.Exports.{Writes, Extends, Measures}
 use Rattle.agreement.specs.Meaning.Exports.{Wrote}
 use Rattle.agreement.proofs.Again.{text_of}

@@ -10,7 +10,7 @@ use Rattle.unitary.specs.Unique.{matrix_unique}
 use Rattle.normal_form.specs.declared.Written.{Written}
 use Rattle.normal_form.specs.Meaning as Job3
 use Rattle.normal_form.specs.Theorems.{normalise_unique}
-use Rattle.synthesis_of_clifford_t.specs.Unique.{synthesise_unique}
+use Rattle.synthesis_of_clifford_t.proofs.Unique.{synthesise_unique}
 use Rattle.agreement.specs.declared.Agreement.{Agreement}
 use Rattle.agreement.specs.Meaning.Agree.{earlier, handed_on, Job4Of, Second, Alike, AgreeOutcome}
 

@@ -10,7 +10,8 @@ use Rattle.ring.specs.Code.{fits₁, is₁}
 use Rattle.ring.specs.declared.ZOmega.{ZOmega}
 use Rattle.view.specs.Meaning.Surd.{over, real, imaginary}
 use Rattle.view.specs.Meaning.Near.{Shows}
-use Rattle.view.specs.Size.{size, Fit, coefficients, real_fit, imaginary_fit, at_most_60}
+use Rattle.view.specs.Size.{size, Fit}
+use Rattle.view.proofs.Size.{coefficients, real_fit, imaginary_fit, at_most_60}
 use Rattle.view.proofs.number.parts.Goals as goal
 
 -- the two pairs of numbers as they are handed over

@@ -19,10 +19,10 @@ use Rattle.normal_form.specs.Again.{answer_of_lem, counted, bytes_written}
 use Rattle.slot.specs.declared.Answer.{Answer}
 use Rattle.slot.specs.Meaning.{Slot, Shows, codes, GivenBy, Given, slot, refused, Measured, LengthOutcome, Left, left, Extended, Overfull}
 use Rattle.slot.specs.Meaning.{add_refusals, AddOutcome}
-use Rattle.slot.specs.Shown.{one_shape, state_size, shown_rest, few_shown}
-use Rattle.slot.specs.Letters.{given_shown, given_more, shown_adds, over_form}
-use Rattle.slot.specs.Standing.{Sound, given_sound, sound_given, clifford_in, clifford_ranged, sum_most, tail_most}
-use Rattle.slot.specs.Unique.{one_form, one_more}
+use Rattle.slot.proofs.Shown.{one_shape, state_size, shown_rest, few_shown}
+use Rattle.slot.proofs.Letters.{given_shown, given_more, shown_adds, over_form}
+use Rattle.slot.proofs.Standing.{Sound, given_sound, sound_given, clifford_in, clifford_ranged, sum_most, tail_most}
+use Rattle.slot.proofs.Unique.{one_form, one_more}
 
 -- ---- told from the record alone, either way
 pub told_alone : {r : Slot} → (Given r → Sound r) × (Sound r → Given r)

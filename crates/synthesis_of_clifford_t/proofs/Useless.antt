@@ -26,9 +26,9 @@ use Rattle.steps.specs.Closing.{closing}
 use Rattle.steps.specs.Steps.{gathered, letters, steps}
 use Rattle.steps.proofs.Synthesised.{reduce_ready}
 use Rattle.synthesis_of_clifford_t.specs.Meaning.{Spelling, text, refused, counts, SpellingOf, asked, refusals, SynthesiseOutcome}
-use Rattle.synthesis_of_clifford_t.specs.Counted.{steps_of, steps_moved, one_spelling}
-use Rattle.synthesis_of_clifford_t.specs.Unique.{synthesise_unique}
-use Rattle.synthesis_of_clifford_t.specs.OneMatrix.{steps_refused}
+use Rattle.synthesis_of_clifford_t.proofs.Counted.{steps_of, steps_moved, one_spelling}
+use Rattle.synthesis_of_clifford_t.proofs.Unique.{synthesise_unique}
+use Rattle.synthesis_of_clifford_t.proofs.OneMatrix.{steps_refused}
 
 abbrev number : ℤ → ℤ → ℤ → ℤ → ZOmega
 number a b c d = record { a = a; b = b; c = c; d = d }

@@ -7,7 +7,7 @@ use Rattle.exact.proofs.Outcomes.Lent.{one_written}
 use Rattle.ring.specs.declared.ZOmega.{ZOmega}
 use Rattle.synthesis_of_clifford_t.specs.declared.Synthesis.{Synthesis}
 use Rattle.synthesis_of_clifford_t.specs.Meaning.{text, refused, counts, SpellingOf, asked, refusals, SynthesiseOutcome}
-use Rattle.synthesis_of_clifford_t.specs.Counted.{one_spelling}
+use Rattle.synthesis_of_clifford_t.proofs.Counted.{one_spelling}
 
 module _ (k : ℤ) (n : ℕ) (z w : ZOmega) (old : List ℕ) where
   pub synthesise_unique : (r : Synthesis) (new : List ℕ) (r' : Synthesis) (new' : List ℕ)

@@ -14,8 +14,8 @@ use Rattle.clifford.specs.Words.{◌≈◌}
 use Rattle.clifford.proofs.Words.{before}
 use Rattle.reading.specs.Readings.{start, run, run_ranged, start_ranged, shape, normal_of, fits}
 use Rattle.slot.specs.Meaning.{Slot, Shows, GivenBy, slot, refused, long, Measured, LengthOutcome, left, Extended, add_refusals, AddOutcome}
-use Rattle.slot.specs.Shown.{one_slot, one_shape}
-use Rattle.slot.specs.Letters.{given_shown}
+use Rattle.slot.proofs.Shown.{one_slot, one_shape}
+use Rattle.slot.proofs.Letters.{given_shown}
 
 -- letters that give one record have one matrix, and letters that have one matrix give one record
 pub one_matrix : {u v : List Letter} {r : Slot} → GivenBy u r → GivenBy v r → Same (word u) (word v)

@@ -18,7 +18,7 @@ use Rattle.reading.specs.Readings.{shape_of, shape, size_of, read_size, prefix, 
 use Rattle.reading.specs.Held as Held
 use Rattle.reading.specs.Held.{codes_length}
 use Rattle.slot.specs.Meaning.{Slot, slot_of, Shows, Empty, Next, Adds, Added, GivenBy, Overfull}
-use Rattle.slot.specs.Shown.{one_slot, one_shape, rest_of, state_shown, few_shown, shown_rest}
+use Rattle.slot.proofs.Shown.{one_slot, one_shape, rest_of, state_shown, few_shown, shown_rest}
 
 -- ---- a letter more, by the reader
 module _ (l : Letter) (st : State) (ranged : Ranged st.q) where

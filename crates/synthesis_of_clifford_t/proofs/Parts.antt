@@ -26,9 +26,10 @@ use Rattle.steps.specs.Steps.{left, letters, steps}
 use Rattle.steps.proofs.Steps.{left_next}
 use Rattle.steps.proofs.Counts.{block_length}
 use Rattle.steps.proofs.Synthesised.{reduction_stepped}
-use Rattle.synthesis_of_clifford_t.specs.Loop.{Progress, progress_start, progress_step, progress_room}
-use Rattle.synthesis_of_clifford_t.specs.Loop.{progress_letters, progress_steps, progress_length}
-use Rattle.synthesis_of_clifford_t.specs.Code.{answer_of, good_ready}
+use Rattle.synthesis_of_clifford_t.proofs.Loop.{Progress, progress_start, progress_step, progress_room}
+use Rattle.synthesis_of_clifford_t.proofs.Loop.{progress_letters, progress_steps, progress_length}
+use Rattle.synthesis_of_clifford_t.specs.Code.{answer_of}
+use Rattle.synthesis_of_clifford_t.proofs.CodeLaws.{good_ready}
 
 -- ---- a block, T^m·H with S for TT
 block_bytes : (m : ℕ) → m < 4 → (replicate {A = ℕ} (m % 2) 84 ++ replicate (m / 2) 83) ++ (72 ∷ []) ≡ bytes (block m)
