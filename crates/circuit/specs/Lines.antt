@@ -1,5 +1,5 @@
 -- Lines of circuits: put together, told apart, and read in one way only. Assumes nothing.
-use Rattle.std.specs.Prelude.{◌≡◌, List, [], ℕ, length}
+use Rattle.std.specs.Prelude.{◌≡◌, List, ℕ, length}
 use Rattle.circuit.specs.Meaning.{Statement}
 use Rattle.circuit.specs.Meaning.{Right, spelling, line, header, letters}
 

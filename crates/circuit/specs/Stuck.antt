@@ -1,6 +1,6 @@
 -- Where bytes can't go on: behind a beginning, each word that may come next parts from them, and one goes along up to the place; then the text
 -- stops there. Used for the header, whose two words are the editions', and for a line, whose words are the statements'. Assumes nothing.
-use Rattle.std.specs.Prelude.{◌≡◌, Bool, List, [], ℕ, ◌<◌, ◌≤◌, T, length, take, get_or}
+use Rattle.std.specs.Prelude.{◌≡◌, Bool, List, ℕ, ◌<◌, ◌≤◌, T, length, take, get_or}
 use Rattle.circuit.specs.Meaning.{Statement, allowed}
 use Rattle.circuit.specs.Lines.{line_of}
 

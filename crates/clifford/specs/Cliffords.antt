@@ -1,6 +1,5 @@
 -- Products, inverses, splits and the passing of a T, as the moves and the tables give them, are right for matrices. Assumes nothing.
-use Rattle.std.specs.Prelude.{[], ℕ, zero, suc, ◌+◌, ◌-◌, ◌*◌, ◌%◌}
-use Rattle.exact.specs.Meaning.Word.{H}
+use Rattle.std.specs.Prelude.{ℕ, zero, suc, ◌+◌, ◌-◌, ◌*◌, ◌%◌}
 use Rattle.clifford.specs.declared.Axis.{Axis}
 use Rattle.clifford.specs.declared.Clifford.{Clifford}
 use Rattle.clifford.specs.declared.Coset.{Coset}

@@ -1,5 +1,5 @@
 -- X and S before a Clifford, moved into it one letter at a time: past E, which leaves a phase, and then past X. Assumes nothing.
-use Rattle.std.specs.Prelude.{◌≡◌, Bool, true, false, List, [], ◌∷◌, ℕ, zero, suc, ◌+◌, ◌-◌, ◌*◌, ◌%◌, ltb, get_or}
+use Rattle.std.specs.Prelude.{◌≡◌, Bool, true, false, List, [], ◌∷◌, ℕ, zero, suc, ◌+◌, ◌*◌, ◌%◌, ltb, get_or}
 use Rattle.exact.specs.Meaning.Word.{Letter, S, X}
 use Rattle.exact.specs.Meaning.Clifford.{cycle}
 use Rattle.clifford.specs.declared.Clifford.{Clifford}

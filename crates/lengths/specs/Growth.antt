@@ -1,7 +1,6 @@
 -- How long a reading's text can become, by its Clifford and by how many letters come: a table of values for each number of letters, in which a T
 -- that removes a syllable may remove any. One computed test, over a round of 24 letters, makes it a law for every number. Assumes nothing.
-use Rattle.std.specs.Prelude.{[], ℕ, max, ◌+◌, ◌-◌}
-use Rattle.exact.specs.Meaning.Word.{I, H}
+use Rattle.std.specs.Prelude.{ℕ, max, ◌+◌, ◌-◌}
 use Rattle.clifford.specs.declared.Axis.{Axis}
 use Rattle.clifford.specs.declared.Clifford.{Clifford}
 

@@ -1,5 +1,5 @@
 -- No answer to a word of job 3 or 5 is too long for as much room as no answer passes. Assumes nothing.
-use Rattle.std.specs.Prelude.{◌≡◌, List, ℕ, ◌≤◌, length}
+use Rattle.std.specs.Prelude.{List, ℕ, ◌≤◌, length}
 use Rattle.std.proofs.Common.{ap, arith}
 use Rattle.exact.specs.Meaning.Word.{Letter, bytes, Spelled}
 use Rattle.exact.specs.Meaning.Limits.{longest}

@@ -1,5 +1,5 @@
 -- A record that letters give, told from the record alone: its codes, the places behind them, its ranges and its bytes. Assumes nothing.
-use Rattle.std.specs.Prelude.{◌≡◌, List, [], ℕ, ◌+◌, ◌*◌, get_or}
+use Rattle.std.specs.Prelude.{◌≡◌, List, ℕ, ◌+◌, ◌*◌, get_or}
 use Rattle.exact.specs.Meaning.Normal.{Syllable}
 use Rattle.clifford.specs.Meaning.{Ranged}
 use Rattle.reading.specs.declared.Text.{Text}
@@ -9,7 +9,7 @@ use Rattle.reading.specs.Readings.{State, shape_of}
 use Rattle.reading.specs.Syllables.{syllable_number, named}
 use Rattle.reading.specs.Texts.{HoldsText}
 use Rattle.slot.specs.declared.told.Told.{Told}
-use Rattle.slot.specs.Meaning.{Slot, code, Shows, Given}
+use Rattle.slot.specs.Meaning.{Slot, Shows, Given}
 
 -- ---- from codes to syllables
 pub record Named (c : ℕ) : Type 0 where

@@ -24,7 +24,7 @@ use Rattle.exact.proofs.Matrices.Words.{word_append}
 use Rattle.exact.specs.Matrices.Triples.{act}
 use Rattle.exact.proofs.Matrices.Triples.{acts, unitary_same, unitary_act}
 use Rattle.exact.specs.Matrices.Divided.{Divided}
-use Rattle.exact.specs.Matrices.Least.{lowered, mod_eight, reduce}
+use Rattle.exact.specs.Matrices.Least.{lowered, mod_eight}
 use Rattle.exact.proofs.Matrices.Least.{reduced_test_lem, lowered_same, Reduces, reduce_reduces, answer_unique}
 use Rattle.steps.specs.Meaning.{power, undo}
 use Rattle.steps.specs.Residues.{back}

@@ -1,6 +1,6 @@
 -- The end of synthesis, k = 0: z or w is a power of omega and the other is 0, and the triple is spelled by at most one T, at most one X,
 -- S at most 3 times and W at most 7 times. Assumes nothing.
-use Rattle.std.specs.Prelude.{Bool, cond, ◌&&◌, List, [], ◌++◌, ℕ, ◌+◌, ◌-◌, ◌*◌, ◌/◌, ◌%◌, eqb, ℤ, nat_abs}
+use Rattle.std.specs.Prelude.{Bool, cond, ◌&&◌, List, ◌++◌, ℕ, ◌+◌, ◌-◌, ◌*◌, ◌/◌, ◌%◌, eqb, ℤ, nat_abs}
 use Rattle.exact.specs.Meaning.Number.{Ω}
 use Rattle.exact.specs.Meaning.Word.{Letter, S, X, W, T'}
 use Rattle.exact.specs.Meaning.Normal.{times}

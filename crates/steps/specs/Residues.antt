@@ -1,6 +1,6 @@
 -- Residues in a step: m by them, whether k falls, and how the parities of z and of omega^-m·w lie then, by one computed test
 -- over all 256 pairs of residues. Assumes nothing.
-use Rattle.std.specs.Prelude.{Bool, List, [], ◌∷◌, ℕ, ◌-◌, ◌^◌, eqb, get_or}
+use Rattle.std.specs.Prelude.{Bool, List, [], ◌∷◌, ℕ, ◌-◌, eqb, get_or}
 use Rattle.exact.specs.Meaning.Number.{Ω, ints, mul_q, omega^, residue}
 
 -- ---- how many parities are odd, by residue

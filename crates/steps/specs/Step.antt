@@ -2,7 +2,6 @@
 -- What was written times the next matrix is the old one; the next triple is reduced and unitary; k falls by one or stays. Assumes nothing.
 use Rattle.std.specs.Prelude.{Bool, List, [], ◌∷◌, ℕ, zero, suc, ◌+◌, ◌-◌}
 use Rattle.exact.specs.Meaning.Number.{ints, add_q, neg_q}
-use Rattle.exact.specs.Meaning.Matrix.{◌·◌}
 use Rattle.exact.specs.Meaning.Word.{Letter, H, S, T'}
 use Rattle.exact.specs.Meaning.Triple.{Triple, Unitary, Reduced}
 use Rattle.exact.specs.Matrices.Triples.{act}

@@ -1,5 +1,4 @@
 -- The step in code: what each function on the way hands on, and that the answer is the case of the definition `reduction`. Assumes nothing.
-use Prim.Native.Nat.{◌-◌}
 use Rattle.unitary.specs.Meaning.{triple}
 use Rattle.synthesis_of_clifford_t.specs.declared.Reduction as declared
 use Rattle.synthesis_of_clifford_t.specs.declared.Reduction.TheVariants as variants

@@ -1,6 +1,6 @@
 -- Sizes: of a ring number, by the squares of its coefficients, which conjugation, a sign and powers of omega keep; of each coefficient by it;
 -- and of A and B by it, at most 2 to the s. In a unitary triple both numbers' sizes are at most 2 to the k. Assumes nothing.
-use Rattle.std.specs.Prelude.{[], ℕ, ◌^◌, ◌≤◌, nat_abs}
+use Rattle.std.specs.Prelude.{ℕ, ◌^◌, ◌≤◌, nat_abs}
 use Rattle.exact.specs.Meaning.Number.{Ω, ints}
 use Rattle.exact.specs.Meaning.Triple.{squares}
 use Rattle.view.specs.Meaning.Surd.{Surd}

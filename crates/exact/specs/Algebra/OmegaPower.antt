@@ -1,5 +1,5 @@
 -- Powers of omega: they repeat after 8, are told apart below 8, and are inverted by conjugation. Assumes nothing.
-use Rattle.std.specs.Prelude.{cond, [], ℕ, ℤ, pos, negsuc}
+use Rattle.std.specs.Prelude.{cond, ℕ, ℤ, pos, negsuc}
 use Rattle.exact.specs.Meaning.Number.{odd, Ω}
 
 -- which power of omega it is, up to 8

@@ -1,5 +1,5 @@
 -- Division by root two: allowed exactly where b+d and c+a are even, and then (a,b,c,d) is half of (b-d, c+a, b+d, c-a). Assumes nothing.
-use Rattle.std.specs.Prelude.{Bool, not, ◌&&◌, [], ◌+ℤ◌, ◌-ℤ◌}
+use Rattle.std.specs.Prelude.{Bool, not, ◌&&◌, ◌+ℤ◌, ◌-ℤ◌}
 use Rattle.exact.specs.Meaning.Number.{Ω, odd}
 use Rattle.exact.specs.Whole.Parity.{half}
 

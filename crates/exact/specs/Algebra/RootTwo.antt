@@ -1,6 +1,5 @@
 -- ℤ[root two], p + q·root two: a commutative ring, and a part of ℤ[omega]: the numbers that are their own conjugates. Root two can be
 -- cancelled in it. Over any ring's operations, so that each law is one computed test. Assumes nothing.
-use Rattle.std.specs.Prelude.{[]}
 use Rattle.exact.specs.Meaning.Number.{Ops}
 use Rattle.exact.specs.Meaning.Rotation.{Root, const_r, add_r, mul_r}
 

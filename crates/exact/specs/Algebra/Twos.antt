@@ -1,6 +1,6 @@
 -- Powers of two that divide a ring number, each of its coefficients: the quotient, and that root two divides that twice more only where the
 -- next power of two divides the number. Assumes nothing.
-use Rattle.std.specs.Prelude.{[], ℕ, ◌≤◌, ℤ}
+use Rattle.std.specs.Prelude.{ℕ, ◌≤◌, ℤ}
 use Rattle.exact.specs.Meaning.Number.{Ω}
 use Rattle.exact.specs.Whole.Twos.{TwoTo}
 

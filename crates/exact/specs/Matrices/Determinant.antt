@@ -1,5 +1,5 @@
 -- Determinants: that of a product is the product, one matrix has one, and a letter's is a power of omega, odd for T alone. Assumes nothing.
-use Rattle.std.specs.Prelude.{[], ℕ}
+use Rattle.std.specs.Prelude.{ℕ}
 use Rattle.exact.specs.Meaning.Word.{Letter, I, H, S, X, W, T'}
 
 -- ---- letters and words

@@ -1,6 +1,6 @@
 -- Least exponents: of a triple it is k where k is 0 or root two does not divide both z and w. Every triple has a reduced one with its
 -- matrix, every word a least exponent, and two reduced unitary triples with the same matrix are equal, n modulo 8. Assumes nothing.
-use Rattle.std.specs.Prelude.{Bool, true, false, not, ◌&&◌, [], ℕ, zero, suc, ◌-◌, ◌%◌}
+use Rattle.std.specs.Prelude.{Bool, true, false, not, ◌&&◌, ℕ, zero, suc, ◌%◌}
 use Rattle.exact.specs.Meaning.Triple.{Triple}
 use Rattle.exact.specs.Algebra.Over.{divides, over}
 

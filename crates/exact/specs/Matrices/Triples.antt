@@ -1,6 +1,6 @@
 -- Triples (docs/SCOPE.md, Triples): each letter acts on them from the left, exactly; their product; unitary means that M*·M is 2 to the k.
 -- Every word's matrix is that of a unitary triple. Assumes nothing.
-use Rattle.std.specs.Prelude.{[], suc, ◌+◌, pos}
+use Rattle.std.specs.Prelude.{suc, ◌+◌, pos}
 use Rattle.exact.specs.Meaning.Number.{ints, add_q, neg_q, mul_q, const_q, omega', omega^}
 use Rattle.exact.specs.Meaning.Word.{Letter, I, H, S, X, W, T'}
 use Rattle.exact.specs.Meaning.Triple.{Triple}

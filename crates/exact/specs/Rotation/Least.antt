@@ -1,6 +1,6 @@
 -- The least exponent of a rotation: there is one; of a normal word's matrix it is the number of its T letters (Giles and Selinger), and no word with
 -- that matrix has fewer; and how it is found in a rotation that is written with another exponent. Assumes nothing.
-use Rattle.std.specs.Prelude.{ℕ, suc, ◌+◌, ◌-◌, ◌≤◌, ◌<◌, ℤ}
+use Rattle.std.specs.Prelude.{ℕ, suc, ◌≤◌, ◌<◌, ℤ}
 use Rattle.exact.specs.Meaning.Rotation.{Three, Vect, lift}
 use Rattle.exact.specs.Algebra.RootPower.{DividesR}
 

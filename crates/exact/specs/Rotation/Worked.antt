@@ -1,8 +1,7 @@
 -- The rotation of a triple, worked out: of (z, w, 0) by squares and products of z and w over root two to the 2k, then turned about Z by n eighths, of
 -- which the odd one costs a root two. Assumes nothing.
-use Rattle.std.specs.Prelude.{[], ℕ, zero, suc, ◌+◌, ℤ}
+use Rattle.std.specs.Prelude.{ℕ, zero, suc, ℤ}
 use Rattle.exact.specs.Meaning.Number.{Ops, Quad, Ω, ints, mul_q, conj_q}
-use Rattle.exact.specs.Meaning.Matrix.{◌·◌}
 use Rattle.exact.specs.Meaning.Triple.{Triple, squares, crosses}
 use Rattle.exact.specs.Meaning.Rotation.{Root, Three, Vect, add_r, add_v, times_v}
 use Rattle.exact.specs.Algebra.RootTwo.{neg_r}

@@ -1,6 +1,6 @@
 -- Powers of two that divide a whole number: told by its bits, shared by two numbers where their `or` has them, counted by its trailing zeros,
 -- and taken off by a shift. Assumes nothing.
-use Rattle.std.specs.Prelude.{◌≡◌, ℕ, suc, ◌-◌, ◌%◌, ◌^◌, ◌<◌, ℤ, pos, nat_abs}
+use Rattle.std.specs.Prelude.{◌≡◌, ℕ, suc, ◌%◌, ◌^◌, ◌<◌, ℤ, pos, nat_abs}
 
 -- 2 to the m divides it
 abbrev pub TwoTo : ℕ → ℤ → Type 0
