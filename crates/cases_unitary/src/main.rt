@@ -35,7 +35,14 @@ fn matrix<W: Write>(out: &mut W, t: DOmegaUnitary) -> io::Result<()> {
     text(out, b"\n")
 }
 
-fn reduced<W: Write>(out: &mut W, label: &[u8], k: i64, n: u8, z: ZOmega, w: ZOmega) -> io::Result<()> {
+fn reduced<W: Write>(
+    out: &mut W,
+    label: &[u8],
+    k: i64,
+    n: u8,
+    z: ZOmega,
+    w: ZOmega,
+) -> io::Result<()> {
     let r = unitary::reduce(k, n, z, w);
     let m = r.matrix;
     text(out, label)?;
