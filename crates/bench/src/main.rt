@@ -2,11 +2,11 @@
 #![tactic(auto)]
 
 ghost use Rattle.std.specs.Prelude.{◌≤◌, ◌<◌, length};
-ghost use Rattle.io.specs.Counts.{IsPrefixLen};
+ghost use Rattle.input.specs.Counts.{IsPrefixLen};
 ghost use Rattle.record.specs.Longest.{longest_record};
 ghost use Rattle.dunrossel.specs.Beginning.{Answers};
 
-use libc::{STDERR_FILENO, STDIN_FILENO, STDOUT_FILENO};
+use std::io;
 
 // The answer to a whole input, of which the buffer has the first `size` bytes: all, or as many as it holds.
 fn answer(buffer: &[u8], size: usize, out: &mut [u8; 512]) -> usize
@@ -18,12 +18,14 @@ fn answer(buffer: &[u8], size: usize, out: &mut [u8; 512]) -> usize
     dunrossel::dunrossel_bench(&buffer[..size], out)
 }
 
-fn main() {
+fn main(rt: HostRuntime) -> io::Result<()> {
     let mut buffer = record::input_buffer();
-    let size = io::read_full(STDIN_FILENO, &mut buffer);
+    let size = input::read_full(&mut rt.stdin(), &mut buffer)?;
     let mut out = [0u8; 512];
     let bytes = answer(&buffer, size, &mut out);
-    if !io::write_all(STDOUT_FILENO, &out[..bytes]) {
-        io::write_all(STDERR_FILENO, b"bench: the answer could not be written\n");
+    if let Err(e) = rt.write_all(&out[..bytes]) {
+        eprintln!(rt; "bench: the answer could not be written")?;
+        return Err(e);
     }
+    Ok(())
 }

@@ -17,7 +17,13 @@ fn handed<W: Write>(out: &mut W, r: Written) -> io::Result<()> {
     number(out, r.tees as u64)
 }
 
-fn shown_as<W: Write>(out: &mut W, label: &[u8], word: &[u8], first: &mut [u8], second: &mut [u8]) -> io::Result<()> {
+fn shown_as<W: Write>(
+    out: &mut W,
+    label: &[u8],
+    word: &[u8],
+    first: &mut [u8],
+    second: &mut [u8],
+) -> io::Result<()> {
     let r = agreement::agree(word, first, second);
     text(out, label)?;
     if r.yes {
@@ -33,7 +39,12 @@ fn shown_as<W: Write>(out: &mut W, label: &[u8], word: &[u8], first: &mut [u8], 
 }
 
 // The whole buffers are shown, so that a byte that should not have been written is seen.
-fn in_rooms<W: Write>(out: &mut W, word: &[u8], first: &mut [u8], second: &mut [u8]) -> io::Result<()> {
+fn in_rooms<W: Write>(
+    out: &mut W,
+    word: &[u8],
+    first: &mut [u8],
+    second: &mut [u8],
+) -> io::Result<()> {
     shown_as(out, word, word, first, second)?;
     text(out, b" ")?;
     text(out, first)?;
@@ -102,7 +113,8 @@ fn main(rt: HostRuntime) -> io::Result<()> {
     long(&mut out, b"W 4096 times", &most)?;
     let more = [b'W'; 4097];
     long(&mut out, b"W 4097 times", &more)?;
-    long(&mut out,
+    long(
+        &mut out,
         b"HT 122 times",
         b"HTHTHTHTHTHTHTHTHTHTHTHTHTHTHTHTHTHTHTHTHTHTHTHTHTHTHTHTHTHTHTHTHTHTHTHTHTHTHTHTHTHTHTHTHTHTHTHTHTHTHTHTHTHTHTHTHTHTHTHTHTHTHTHTHTHTHTHTHTHTHTHTHTHTHTHTHTHTHTHTHTHTHTHTHTHTHTHTHTHTHTHTHTHTHTHTHTHTHTHTHTHTHTHTHTHTHTHTHTHTHTHTHTHTHTHTHTHTHTHTHTHT",
     )

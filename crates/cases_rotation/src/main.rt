@@ -43,7 +43,14 @@ fn rows<W: Write>(out: &mut W, r: Rotation) -> io::Result<()> {
     row(out, x.z, y.z, z.z)
 }
 
-fn case<W: Write>(out: &mut W, label: &[u8], k: i64, n: u8, z: ZOmega, w: ZOmega) -> io::Result<()> {
+fn case<W: Write>(
+    out: &mut W,
+    label: &[u8],
+    k: i64,
+    n: u8,
+    z: ZOmega,
+    w: ZOmega,
+) -> io::Result<()> {
     let count = rotation::t_count(k, n, z, w);
     let answer = rotation::rotate(k, n, z, w);
     let r = answer.rotation;
@@ -80,14 +87,16 @@ fn words<W: Write>(out: &mut W) -> io::Result<()> {
     case(out, b"SHT", 1, 7, one, quad(0, 1, 0, 0))?;
     case(out, b"THT", 1, 6, one, omega)?;
     case(out, b"HTHT", 2, 2, quad(0, 0, 1, 1), quad(0, 0, -1, 1))?;
-    case(out,
+    case(
+        out,
         b"five steps, four T",
         3,
         0,
         quad(0, 0, 2, 1),
         quad(1, -1, 1, 0),
     )?;
-    case(out,
+    case(
+        out,
         b"four steps, five T",
         3,
         5,
@@ -103,9 +112,17 @@ fn unreduced<W: Write>(out: &mut W) -> io::Result<()> {
     let root = quad(-536870912, 0, 536870912, 0);
     let z = quad(0, 0, 536870912, 536870912);
     let w = quad(0, 0, -536870912, 536870912);
-    case(out, b"HTHT at k=5", 5, 2, quad(-2, 2, 2, 2), quad(-2, -2, 2, -2))?;
+    case(
+        out,
+        b"HTHT at k=5",
+        5,
+        2,
+        quad(-2, 2, 2, 2),
+        quad(-2, -2, 2, -2),
+    )?;
     case(out, b"HTHT at k=60", 60, 2, z, w)?;
-    case(out,
+    case(
+        out,
         b"THT at k=2, n=254",
         2,
         254,
@@ -113,8 +130,16 @@ fn unreduced<W: Write>(out: &mut W) -> io::Result<()> {
         quad(0, 1, 0, 1),
     )?;
     case(out, b"H at k=60", 60, 4, root, root)?;
-    case(out, b"z=2^30 omega^3", 60, 0, quad(1073741824, 0, 0, 0), zero)?;
-    case(out,
+    case(
+        out,
+        b"z=2^30 omega^3",
+        60,
+        0,
+        quad(1073741824, 0, 0, 0),
+        zero,
+    )?;
+    case(
+        out,
         b"w=-2^30 omega, n=9",
         60,
         9,
@@ -124,14 +149,16 @@ fn unreduced<W: Write>(out: &mut W) -> io::Result<()> {
 }
 
 fn reduced_at_60<W: Write>(out: &mut W) -> io::Result<()> {
-    case(out,
+    case(
+        out,
         b"dial60",
         60,
         0,
         quad(1157917, 241244727, 257304114, 252947704),
         quad(391597696, 44672128, 715598589, -545075685),
     )?;
-    case(out,
+    case(
+        out,
         b"wide60",
         60,
         248,

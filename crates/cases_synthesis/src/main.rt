@@ -17,7 +17,15 @@ fn quad(a: i64, b: i64, c: i64, d: i64) -> ZOmega {
 }
 
 // The whole lent buffer is shown, so that a byte past the length is seen too.
-fn case<W: Write>(out: &mut W, label: &[u8], k: i64, n: u8, z: ZOmega, w: ZOmega, buf: &mut [u8]) -> io::Result<()> {
+fn case<W: Write>(
+    out: &mut W,
+    label: &[u8],
+    k: i64,
+    n: u8,
+    z: ZOmega,
+    w: ZOmega,
+    buf: &mut [u8],
+) -> io::Result<()> {
     let r = synthesis_of_clifford_t::synthesise(k, n, z, w, buf);
     text(out, label)?;
     text(out, b": refusal=")?;
@@ -33,7 +41,14 @@ fn case<W: Write>(out: &mut W, label: &[u8], k: i64, n: u8, z: ZOmega, w: ZOmega
     text(out, b"\n")
 }
 
-fn short<W: Write>(out: &mut W, label: &[u8], k: i64, n: u8, z: ZOmega, w: ZOmega) -> io::Result<()> {
+fn short<W: Write>(
+    out: &mut W,
+    label: &[u8],
+    k: i64,
+    n: u8,
+    z: ZOmega,
+    w: ZOmega,
+) -> io::Result<()> {
     let mut buf = [b'.'; 16];
     case(out, label, k, n, z, w, &mut buf)
 }
@@ -82,8 +97,16 @@ fn unreduced<W: Write>(out: &mut W) -> io::Result<()> {
     let zero = quad(0, 0, 0, 0);
     let root = quad(-536870912, 0, 536870912, 0);
     short(out, b"identity at k=1", 1, 0, quad(-1, 0, 1, 0), zero)?;
-    short(out, b"identity at k=60", 60, 0, quad(0, 0, 0, 1073741824), zero)?;
-    short(out,
+    short(
+        out,
+        b"identity at k=60",
+        60,
+        0,
+        quad(0, 0, 0, 1073741824),
+        zero,
+    )?;
+    short(
+        out,
         b"-identity at k=60",
         60,
         0,
@@ -99,29 +122,40 @@ fn steps<W: Write>(out: &mut W) -> io::Result<()> {
     short(out, b"H", 1, 4, one, one)?;
     short(out, b"HSH", 1, 2, quad(0, 0, 1, 0), quad(-1, 0, 0, 0))?;
     short(out, b"HTHT", 2, 2, quad(0, 0, 1, 1), quad(0, 0, -1, 1))?;
-    short(out,
+    short(
+        out,
         b"k=3, four steps",
         3,
         0,
         quad(0, 0, 1, -1),
         quad(-1, 1, 0, 2),
     )?;
-    short(out, b"k=3, five steps", 3, 7, quad(1, 1, 1, 0), quad(2, 0, 0, 1))?;
-    short(out,
+    short(
+        out,
+        b"k=3, five steps",
+        3,
+        7,
+        quad(1, 1, 1, 0),
+        quad(2, 0, 0, 1),
+    )?;
+    short(
+        out,
         b"four steps, five T",
         3,
         5,
         quad(-1, 2, 0, 1),
         quad(0, 0, 1, 1),
     )?;
-    short(out,
+    short(
+        out,
         b"five steps, four T",
         3,
         0,
         quad(0, 0, 2, 1),
         quad(1, -1, 1, 0),
     )?;
-    short(out,
+    short(
+        out,
         b"the same at k=4, n=8",
         4,
         8,

@@ -27,7 +27,14 @@ fn lines<W: Write>(out: &mut W, v: View) -> io::Result<()>
     line(out, f64::to_bits(v.im11))
 }
 
-fn case<W: Write>(out: &mut W, label: &[u8], k: i64, n: u8, z: ZOmega, w: ZOmega) -> io::Result<()> {
+fn case<W: Write>(
+    out: &mut W,
+    label: &[u8],
+    k: i64,
+    n: u8,
+    z: ZOmega,
+    w: ZOmega,
+) -> io::Result<()> {
     let o = view::view(k, n, z, w);
     let v = o.view;
     text(out, label)?;
@@ -55,15 +62,24 @@ fn main(rt: HostRuntime) -> io::Result<()> {
     case(&mut out, b"T", 0, 1, one, nil)?;
     case(&mut out, b"X", 0, 4, nil, one)?;
     case(&mut out, b"n=255", 0, 255, one, nil)?;
-    case(&mut out, b"k=60", 60, 0, number_of(0, 0, 0, 1073741824), nil)?;
-    case(&mut out,
+    case(
+        &mut out,
+        b"k=60",
+        60,
+        0,
+        number_of(0, 0, 0, 1073741824),
+        nil,
+    )?;
+    case(
+        &mut out,
         b"k=60, reduced",
         60,
         1,
         number_of(-191924351, -210280441, 4968170, -439776288),
         number_of(480679003, -656194707, -134730066, -445695894),
     )?;
-    case(&mut out,
+    case(
+        &mut out,
         b"k=59, reduced",
         59,
         5,
@@ -72,8 +88,22 @@ fn main(rt: HostRuntime) -> io::Result<()> {
     )?;
     case(&mut out, b"k=61", 61, 0, one, nil)?;
     case(&mut out, b"k=-1", -1, 0, one, nil)?;
-    case(&mut out, b"2^30+1", 60, 0, number_of(0, 0, 0, 1073741825), nil)?;
-    case(&mut out, b"-2^30-1", 60, 0, nil, number_of(-1073741825, 0, 0, 0))?;
+    case(
+        &mut out,
+        b"2^30+1",
+        60,
+        0,
+        number_of(0, 0, 0, 1073741825),
+        nil,
+    )?;
+    case(
+        &mut out,
+        b"-2^30-1",
+        60,
+        0,
+        nil,
+        number_of(-1073741825, 0, 0, 0),
+    )?;
     case(&mut out, b"squares", 0, 0, one, one)?;
     case(&mut out, b"crosses", 1, 0, number_of(0, 0, 1, 1), nil)
 }

@@ -6,6 +6,8 @@ use record::Record;
 use ring::ZOmega;
 use root_two::{Root, Vect};
 use shown::{number, signed, text};
+use std::io;
+use std::io::Write;
 use unitary::DOmegaUnitary;
 
 fn and_number<W: Write>(out: &mut W, x: u64) -> io::Result<()> {
@@ -94,7 +96,12 @@ fn circuit<W: Write>(out: &mut W, answer: qasm::Written, lent: &[u8]) -> io::Res
     and_lent(out, lent)
 }
 
-fn write_circuit<W: Write>(out: &mut W, edition: Edition, word: &[u8], lent: &mut [u8]) -> io::Result<()> {
+fn write_circuit<W: Write>(
+    out: &mut W,
+    edition: Edition,
+    word: &[u8],
+    lent: &mut [u8],
+) -> io::Result<()> {
     let answer = qasm::write(edition, word, lent);
     circuit(out, answer, lent)
 }
@@ -118,12 +125,15 @@ fn synthesise<W: Write>(out: &mut W, r: Record, lent: &mut [u8]) -> io::Result<(
     let k = r.k;
     let n = r.n;
     let answer = synthesis_of_clifford_t::synthesise(k, n, z_of(r), w_of(r), lent);
-    counts(out, Written {
-        refusal: answer.refusal,
-        place: 0,
-        bytes: answer.bytes,
-        tees: answer.tees,
-    })?;
+    counts(
+        out,
+        Written {
+            refusal: answer.refusal,
+            place: 0,
+            bytes: answer.bytes,
+            tees: answer.tees,
+        },
+    )?;
     and_number(out, answer.steps as u64)?;
     and_lent(out, lent)
 }
@@ -205,7 +215,10 @@ fn parts<W: Write>(out: &mut W, q: Clifford) -> io::Result<()> {
 fn product<W: Write>(out: &mut W, r: Record) -> io::Result<()> {
     let x = Four::of(z_of(r));
     let y = Four::of(w_of(r));
-    parts(out, clifford::clifford_product(x.a, x.b, x.c, x.d, y.a, y.b, y.c, y.d))
+    parts(
+        out,
+        clifford::clifford_product(x.a, x.b, x.c, x.d, y.a, y.b, y.c, y.d),
+    )
 }
 
 fn inverse<W: Write>(out: &mut W, r: Record) -> io::Result<()> {
@@ -233,8 +246,7 @@ fn coset<W: Write>(out: &mut W, r: Record) -> io::Result<()> {
 
 fn of_record<W: Write>(out: &mut W, job: u8, r: Record, lent: &mut [u8]) -> io::Result<()> {
     if r.refusal != 0 {
-        text(out, b"no record")?;
-        return;
+        return text(out, b"no record");
     }
     match job {
         b'1' => reduce(out, r),
@@ -246,7 +258,6 @@ fn of_record<W: Write>(out: &mut W, job: u8, r: Record, lent: &mut [u8]) -> io::
         b'C' => coset(out, r),
         _ => text(out, b"no job"),
     }
-    CHECKTAIL
 }
 
 // The payload of 2, 3, 5, Q and G is a word, that of R a circuit's text, that of the others a bench record.
@@ -260,5 +271,4 @@ pub fn answer<W: Write>(out: &mut W, job: u8, payload: &[u8], lent: &mut [u8]) -
         b'R' => read_circuit(out, payload, lent),
         _ => of_record(out, job, record::read(payload), lent),
     }
-    CHECKTAIL
 }
