@@ -9,6 +9,7 @@ ghost use Rattle.dunrossel.specs.Meaning.Bench.{BenchOutcome};
 
 use std::io;
 use std::io::Read;
+use std::process::ExitCode;
 
 // The answer to a whole input, of which the buffer has the first `size` bytes: all, or as many as it holds.
 fn answer(buffer: &[u8], size: usize, out: &mut [u8; 512]) -> usize
@@ -30,12 +31,12 @@ fn answer_stream<R: Read>(from: &mut R, out: &mut [u8; 512]) -> io::Result<usize
     Ok(answer(&buffer, size, out))
 }
 
-fn main(rt: HostRuntime) -> io::Result<()> {
+fn main(rt: HostRuntime) -> io::Result<ExitCode> {
     let mut out = [0u8; 512];
     let bytes = answer_stream(&mut rt.stdin(), &mut out)?;
-    if let Err(e) = rt.write_all(&out[..bytes]) {
+    if rt.write_all(&out[..bytes]).is_err() {
         eprintln!(rt; "bench: the answer could not be written")?;
-        return Err(e);
+        return Ok(ExitCode::FAILURE);
     }
-    Ok(())
+    Ok(ExitCode::SUCCESS)
 }
