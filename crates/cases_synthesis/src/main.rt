@@ -137,7 +137,10 @@ fn steps<W: Write>(out: &mut W) -> io::Result<()> {
         7,
         quad(1, 1, 1, 0),
         quad(2, 0, 0, 1),
-    )?;
+    )
+}
+
+fn steps_and_tees<W: Write>(out: &mut W) -> io::Result<()> {
     short(
         out,
         b"four steps, five T",
@@ -197,6 +200,7 @@ fn main(rt: HostRuntime) -> io::Result<()> {
     each_n(&mut out, quad(0, 0, 0, 0), quad(0, 0, 0, 1))?;
     unreduced(&mut out)?;
     steps(&mut out)?;
+    steps_and_tees(&mut out)?;
     room(&mut out)?;
     t_inverse(&mut out)
 }
