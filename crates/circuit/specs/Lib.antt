@@ -2,5 +2,3 @@
 pub mod Meaning
 pub mod Lines
 pub mod Stuck
-pub mod Gates
-mod Cases

@@ -9,10 +9,11 @@ use Rattle.std.proofs.Math.Seq.{length-sets, drop-append_seam}
 use Rattle.std.proofs.lemmas.List.{set_comm}
 use Rattle.exact.specs.Meaning.Word.{Letter, bytes}
 use Rattle.exact.specs.Meaning.Lent.{over}
-use Rattle.exact.specs.Cases.Letters.{bytes_length}
+use Rattle.exact.proofs.Cases.Letters.{bytes_length}
 use Rattle.circuit_letters.specs.declared.Step.{Step}
 use Rattle.circuit.specs.Meaning.{Statement, header, lines, read_as, letters, Reads}
-use Rattle.circuit.specs.Lines.{line_of, Each, each, line_long, read_some, one_reading, bytes_append, OfCircuit}
+use Rattle.circuit.specs.Lines.{line_of, OfCircuit}
+use Rattle.circuit.proofs.Lines.{Each, each, line_long, read_some, one_reading, bytes_append}
 use Rattle.circuit_letters.specs.Letters.{Before, PutsBefore, Stands, Stepped, PutsStatement, PutsLetters}
 
 -- ---- a byte before the others

@@ -7,8 +7,10 @@ use Rattle.std.proofs.Math.Facts.{or_yes}
 use Rattle.exact.specs.Meaning.Text.{Stops}
 use Rattle.circuit_reader.specs.declared.Line.{Line}
 use Rattle.circuit.specs.Meaning.{Edition, two, three, Statement, h', s', t', x', sdg, tdg, gphase, allowed, header, Right, read_as}
-use Rattle.circuit.specs.Lines.{line_of, Each, each, line_long, number, same_number, computed}
-use Rattle.circuit.specs.Stuck.{Parts, Stuck, header_stops, IsLine}
+use Rattle.circuit.specs.Lines.{line_of}
+use Rattle.circuit.proofs.Lines.{Each, each, line_long, number, same_number, computed}
+use Rattle.circuit.specs.Stuck.{Parts, Stuck, IsLine}
+use Rattle.circuit.proofs.Stuck.{header_stops}
 use Rattle.circuit_reader.specs.Reading.{Along, MatchIs, LineIs, SameIs, Heading, Headed}
 
 -- ---- a line that can only be the statement a: every other differs from it in the first byte or the second

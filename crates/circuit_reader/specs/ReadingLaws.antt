@@ -12,8 +12,10 @@ use Rattle.exact.specs.Meaning.Text.{ascii, Stops}
 use Rattle.circuit_reader.specs.declared.Line.{Line}
 use Rattle.circuit.specs.Meaning.{Edition, row, Statement, h', s', t', x', sdg, tdg, allowed, AllAllowed, header, lines, text, Right}
 use Rattle.circuit.specs.Meaning.{read_as, letters}
-use Rattle.circuit.specs.Lines.{line_of, lines_append, allowed_append, letters_append, line_long, read_few, OfCircuit}
-use Rattle.circuit.specs.Stuck.{IsLine, Stuck, line_stops}
+use Rattle.circuit.specs.Lines.{line_of, OfCircuit}
+use Rattle.circuit.proofs.Lines.{lines_append, allowed_append, letters_append, line_long, read_few}
+use Rattle.circuit.specs.Stuck.{IsLine, Stuck}
+use Rattle.circuit.proofs.Stuck.{line_stops}
 use Rattle.circuit_reader.specs.Reading.{Along, Less, Whole, StopsAt, Taken, LineIs, GateNamed, TailIs, GateIs, DaggerIs, SameIs, Headed}
 
 -- ---- the first k bytes go along

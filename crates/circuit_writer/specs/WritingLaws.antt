@@ -7,10 +7,11 @@ use Rattle.std.proofs.Math.ListN.{get_or-append}
 use Rattle.std.proofs.Math.Seq.{take-length, drop-length, get_or-append_seam}
 use Rattle.exact.specs.Meaning.Word.{Letter, I, H, S, X, W, T', byte, bytes, IsLetter, FirstOutside}
 use Rattle.exact.specs.Meaning.Text.{ascii}
-use Rattle.exact.specs.Cases.Letters.{letter_of, letter_of_byte, letters_of, letters_of_append, letters_of_length, letter_back, is_letter}
+use Rattle.exact.specs.Cases.Letters.{letter_of, letters_of}
+use Rattle.exact.proofs.Cases.Letters.{letter_of_byte, letters_of_append, letters_of_length, letter_back, is_letter}
 use Rattle.lent.specs.Written.{Written as Puts, written_both, written_byte, written_length}
 use Rattle.circuit.specs.Meaning.{lines, statement_of, circuit}
-use Rattle.circuit.specs.Lines.{lines_append, cons_head, cons_tail, bytes_append}
+use Rattle.circuit.proofs.Lines.{lines_append, cons_head, cons_tail, bytes_append}
 use Rattle.circuit_writer.specs.Writing.{Spells, size_of, size, SizeIs, letter, no_letter, Measures, PhaseIs, past_phase}
 
 -- ---- the size of a line

@@ -1,8 +1,6 @@
 -- What job 6 promises (`Meaning`), and the proofs of it.
 pub mod Meaning
-pub mod Unique
 pub mod Arguments
-pub mod Remainder
 pub mod Words
 pub mod Tables
 pub mod Moves

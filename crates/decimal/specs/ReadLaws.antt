@@ -4,7 +4,7 @@ use Rattle.std.proofs.Common.{sym, ◌∙◌, ap, subst, inl, inr, append_assoc,
 use Rattle.std.specs.Int.{w64}
 use Rattle.std.proofs.lemmas.Int.{to_z_pos, to_z-of_z}
 use Rattle.exact.specs.Meaning.Record.{digits, text, InRange}
-use Rattle.exact.specs.Whole.Machine.{held}
+use Rattle.exact.proofs.Whole.Machine.{held}
 use Rattle.decimal.specs.Decimal.{Digit, Digits, Grown, First, Ends, Goes, digits_one, digits_push, digits_digits, digits_once}
 use Rattle.decimal.specs.Decimal.{cut, goes_on, first_of, all_digits, no_digit, minus_first, cons_head, cons_tail}
 use Rattle.decimal.specs.Format.{Found, Missing, natural, whole}

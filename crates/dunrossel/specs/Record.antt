@@ -10,17 +10,17 @@ use Rattle.exact.specs.Meaning.Outcome.{Rung, Outcome, none, ◌then◌}
 use Rattle.exact.specs.Meaning.Lent.{Lent, lent, over, untouched, Writes}
 use Rattle.exact.specs.Meaning.Refusals.{checks, TooMany, room, malformed}
 use Rattle.exact.specs.Meaning.Record.{Numbers, answer_text}
-use Rattle.exact.specs.Cases.Letters.{bytes_length}
-use Rattle.exact.specs.Whole.Machine.{held}
-use Rattle.exact.specs.Outcomes.Ladder.{Passed, answered, always, carry}
-use Rattle.exact.specs.Outcomes.Checked.{Taken, checks_taken}
-use Rattle.exact.specs.Outcomes.Lent.{text_there}
+use Rattle.exact.proofs.Cases.Letters.{bytes_length}
+use Rattle.exact.proofs.Whole.Machine.{held}
+use Rattle.exact.proofs.Outcomes.Ladder.{Passed, answered, always, carry}
+use Rattle.exact.proofs.Outcomes.Checked.{Taken, checks_taken}
+use Rattle.exact.proofs.Outcomes.Lent.{text_there}
 use Rattle.ring.specs.declared.ZOmega.{ZOmega}
 use Rattle.unitary.specs.Triples.{number}
 use Rattle.synthesis_of_clifford_t.specs.declared.Synthesis.{Synthesis}
 use Rattle.synthesis_of_clifford_t.specs.Meaning as Job4
 use Rattle.synthesis_of_clifford_t.specs.Meaning.{SpellingOf, SynthesiseOutcome}
-use Rattle.synthesis_of_clifford_t.specs.Enough.{answer_short, bytes_there, bytes_few}
+use Rattle.synthesis_of_clifford_t.proofs.Enough.{answer_short, bytes_there, bytes_few}
 use Rattle.record.specs.declared.Record.{Record}
 use Rattle.record.specs.Meaning.{numbers, ReadOutcome, WriteOutcome}
 use Rattle.dunrossel.specs.Meaning.Bench.{printed, refused, word_text, word_size, asked, NumbersOutcome, OfRecord, BenchOutcome}

@@ -8,25 +8,25 @@ use Rattle.exact.specs.Meaning.Lent as Lent
 use Rattle.exact.specs.Meaning.Lent.{lent}
 use Rattle.exact.specs.Meaning.Refusals.{checks, malformed}
 use Rattle.exact.specs.Meaning.Record.{Numbers}
-use Rattle.exact.specs.Outcomes.Ladder.{Only, one_outcome, one_handed}
-use Rattle.exact.specs.Outcomes.Places.{one_plain}
-use Rattle.exact.specs.Outcomes.Checked.{checks_one}
-use Rattle.exact.specs.Outcomes.Lent.{one_written}
+use Rattle.exact.proofs.Outcomes.Ladder.{Only, one_outcome, one_handed}
+use Rattle.exact.proofs.Outcomes.Places.{one_plain}
+use Rattle.exact.proofs.Outcomes.Checked.{checks_one}
+use Rattle.exact.proofs.Outcomes.Lent.{one_written}
 use Rattle.record.specs.RecordLaws.{record_once}
 use Rattle.dunrossel.specs.Meaning.Bench.{refused, word_text, word_size, asked, NumbersOutcome, OfRecord, BenchOutcome}
 use Rattle.unitary.specs.Unique.{reduce_unique, matrix_unique}
 use Rattle.normal_form.specs.Unique.{outcome_unique}
-use Rattle.clifford.specs.Unique.{Product-unique, Inverse-unique, Split-unique}
+use Rattle.clifford.proofs.Unique.{Product-unique, Inverse-unique, Split-unique}
 use Rattle.synthesis_of_clifford_t.specs.declared.Synthesis.{Synthesis}
 use Rattle.synthesis_of_clifford_t.specs.Meaning.{SpellingOf}
-use Rattle.synthesis_of_clifford_t.specs.Counted.{one_spelling}
-use Rattle.synthesis_of_clifford_t.specs.Unique.{synthesise_unique}
+use Rattle.synthesis_of_clifford_t.proofs.Counted.{one_spelling}
+use Rattle.synthesis_of_clifford_t.proofs.Unique.{synthesise_unique}
 use Rattle.circuit.specs.Meaning.{Edition}
 use Rattle.qasm.specs.Meaning.{WriteOutcome, ReadOutcome}
 use Rattle.qasm.specs.Unique.{write_unique, read_unique}
 use Rattle.slot.specs.Meaning.{slot_of}
-use Rattle.slot.specs.Unique.{add_unique, length_unique}
-use Rattle.view.specs.Unique.{view_unique}
+use Rattle.slot.proofs.Unique.{add_unique, length_unique}
+use Rattle.view.proofs.Unique.{view_unique}
 use Rattle.rotation.specs.Unique.{count_unique, rotation_unique}
 use Rattle.dunrossel.specs.Meaning.Exports.{Reduces, Multiplies, Views, Counts, Rotates, Writes, Synthesises, Converts, Extends, Measures}
 use Rattle.dunrossel.specs.Meaning.Exports.{argument, Multiplied, Inverted, Parted}

@@ -5,5 +5,4 @@ pub mod Algebra
 pub mod Matrices
 pub mod Cases
 pub mod Rotation
-pub mod Unique
 pub mod Outcomes

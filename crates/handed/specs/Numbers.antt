@@ -4,8 +4,8 @@ use Rattle.std.proofs.Common.{arith, Fits, to_z, to_z-of_z}
 use Rattle.std.specs.Int.Signed.{mag}
 use Rattle.std.specs.Int.{w8, w32, w64}
 use Rattle.std.proofs.Math.Facts.{to_z_pos}
-use Rattle.exact.specs.Whole.Machine.{held}
-use Rattle.exact.specs.Whole.Size.{sfits_abs}
+use Rattle.exact.proofs.Whole.Machine.{held}
+use Rattle.exact.proofs.Whole.Size.{sfits_abs}
 use Rattle.ring.specs.declared.ZOmega.{ZOmega}
 use Rattle.root_two.specs.declared.Root.{Root}
 

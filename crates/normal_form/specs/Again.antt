@@ -6,11 +6,11 @@ use Rattle.exact.specs.Meaning.Word.{Letter, word, bytes, Spelled}
 use Rattle.exact.specs.Meaning.Normal.{Normal, PhaseFree}
 use Rattle.exact.specs.Meaning.Limits.{longest, no_refusal}
 use Rattle.exact.specs.Meaning.Lent.{Lent, lent, over, untouched, Writes}
-use Rattle.exact.specs.Matrices.Same.{Same-refl}
-use Rattle.exact.specs.Unique.PhaseFree.{phase_free_normal, phase_free_own}
-use Rattle.exact.specs.Cases.Letters.{bytes_length}
-use Rattle.exact.specs.Outcomes.Ladder.{Only, accepted}
-use Rattle.exact.specs.Outcomes.Lent.{handed_same, bytes_same, text_there}
+use Rattle.exact.proofs.Matrices.Same.{Same-refl}
+use Rattle.exact.proofs.Unique.PhaseFree.{phase_free_normal, phase_free_own}
+use Rattle.exact.proofs.Cases.Letters.{bytes_length}
+use Rattle.exact.proofs.Outcomes.Ladder.{Only, accepted}
+use Rattle.exact.proofs.Outcomes.Lent.{handed_same, bytes_same, text_there}
 use Rattle.normal_form.specs.declared.Written.{Written}
 use Rattle.normal_form.specs.Meaning.{Normalises, DropsPhase, refused, counts, word_refusals, WordOutcome, NormaliseOutcome, PhaseFreeOutcome}
 use Rattle.normal_form.specs.Unique.{normalises_single, drops_single}

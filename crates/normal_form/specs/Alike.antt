@@ -6,9 +6,9 @@ use Rattle.exact.specs.Meaning.Outcome.{none, ◌then◌}
 use Rattle.exact.specs.Meaning.Lent.{lent, untouched, Writes}
 use Rattle.exact.specs.Meaning.Refusals as Refusals
 use Rattle.exact.specs.Meaning.Refusals.{long, room}
-use Rattle.exact.specs.Outcomes.Ladder.{Only, skip, pass}
-use Rattle.exact.specs.Outcomes.Places.{of_bytes}
-use Rattle.exact.specs.Outcomes.Lent.{written_as}
+use Rattle.exact.proofs.Outcomes.Ladder.{Only, skip, pass}
+use Rattle.exact.proofs.Outcomes.Places.{of_bytes}
+use Rattle.exact.proofs.Outcomes.Lent.{written_as}
 use Rattle.normal_form.specs.declared.Written.{Written}
 use Rattle.normal_form.specs.Meaning.{refused, counts, WordOutcome}
 use Rattle.normal_form.specs.Unique.{outcome_unique}

@@ -7,9 +7,10 @@ use Rattle.exact.specs.Meaning.Word.{Letter, bytes, tees, Spelled}
 use Rattle.exact.specs.Meaning.Normal.{spell}
 use Rattle.exact.specs.Meaning.Limits.{no_refusal, letter_refusal, room_refusal}
 use Rattle.exact.specs.Meaning.Lent.{over}
-use Rattle.exact.specs.Cases.Letters.{letters_of, bytes_length, Inside, bytes_back, inside_passes}
-use Rattle.exact.specs.Unique.Tails.{tees_append}
-use Rattle.exact.specs.Outcomes.Ladder.{Only}
+use Rattle.exact.specs.Cases.Letters.{letters_of, Inside}
+use Rattle.exact.proofs.Cases.Letters.{bytes_length, bytes_back, inside_passes}
+use Rattle.exact.proofs.Unique.Tails.{tees_append}
+use Rattle.exact.proofs.Outcomes.Ladder.{Only}
 use Rattle.reading.specs.declared.Read.{Read}
 use Rattle.reading.specs.declared.Reading.{Reading}
 use Rattle.reading.specs.Readings.{State, prefix, prefix_tees, start, run, shape, normal, phase_free, normal_of}

@@ -6,8 +6,8 @@ use Rattle.exact.specs.Meaning.Matrix.{ByOmega}
 use Rattle.exact.specs.Meaning.Word.{Letter, word, bytes, Spelled}
 use Rattle.exact.specs.Meaning.Cheapest.{Cheapest}
 use Rattle.exact.specs.Meaning.Limits.{no_refusal}
-use Rattle.exact.specs.Outcomes.Places.{of_bytes}
-use Rattle.exact.specs.Unique.Cheapest.{SpelledCheapest, normal_spelled, phase_free_spelled}
+use Rattle.exact.proofs.Outcomes.Places.{of_bytes}
+use Rattle.exact.proofs.Unique.Cheapest.{SpelledCheapest, normal_spelled, phase_free_spelled}
 use Rattle.normal_form.specs.declared.Written.{Written}
 use Rattle.normal_form.specs.Meaning.{Normalises, DropsPhase, NormaliseOutcome, PhaseFreeOutcome}
 use Rattle.normal_form.specs.Again.{answer_of_lem, counted, bytes_written}

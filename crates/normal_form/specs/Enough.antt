@@ -7,10 +7,10 @@ use Rattle.exact.specs.Meaning.Limits.{longest, normal_enough, phase_free_enough
 use Rattle.exact.specs.Meaning.Outcome.{Rung}
 use Rattle.exact.specs.Meaning.Lent.{lent, over, untouched, Writes}
 use Rattle.exact.specs.Meaning.Refusals.{TooMany}
-use Rattle.exact.specs.Cases.Letters.{bytes_length, none_outside}
-use Rattle.exact.specs.Outcomes.Ladder.{answered}
-use Rattle.exact.specs.Outcomes.Lent.{handed_same}
-use Rattle.lengths.specs.Longest.{normal_enough_lem, phase_free_enough_lem, normal_attained, phase_free_attained}
+use Rattle.exact.proofs.Cases.Letters.{bytes_length, none_outside}
+use Rattle.exact.proofs.Outcomes.Ladder.{answered}
+use Rattle.exact.proofs.Outcomes.Lent.{handed_same}
+use Rattle.lengths.proofs.Longest.{normal_enough_lem, phase_free_enough_lem, normal_attained, phase_free_attained}
 use Rattle.normal_form.specs.declared.Written.{Written}
 use Rattle.normal_form.specs.Meaning.{Normalises, DropsPhase, refused, counts, word_refusals, WordOutcome, NormaliseOutcome, PhaseFreeOutcome}
 use Rattle.normal_form.specs.Unique.{normalises_single, drops_single}

@@ -4,9 +4,9 @@ use Rattle.std.proofs.Common.{ap, arith, leb→le}
 use Rattle.exact.specs.Meaning.Word.{Letter, I, H, W, T', bytes}
 use Rattle.exact.specs.Meaning.Limits.{longest, no_refusal, room_refusal}
 use Rattle.exact.specs.Meaning.Lent.{lent, over}
-use Rattle.exact.specs.Outcomes.Lent.{handed_same, bytes_same}
-use Rattle.exact.specs.Cases.Table.{Each, each_more}
-use Rattle.exact.specs.Cases.PhaseFree.{Freed, IsFreed, freed_words, all_freed}
+use Rattle.exact.proofs.Outcomes.Lent.{handed_same, bytes_same}
+use Rattle.exact.proofs.Cases.Table.{Each, each_more}
+use Rattle.exact.proofs.Cases.PhaseFree.{Freed, IsFreed, freed_words, all_freed}
 use Rattle.normal_form.specs.declared.Written.{Written}
 use Rattle.normal_form.specs.Meaning.{DropsPhase, refused, counts, PhaseFreeOutcome}
 use Rattle.normal_form.specs.Unique.{drops_single}

@@ -5,9 +5,9 @@ use Rattle.exact.specs.Meaning.Matrix.{Same}
 use Rattle.exact.specs.Meaning.Word.{Letter, I, word, bytes}
 use Rattle.exact.specs.Meaning.Limits.{longest}
 use Rattle.exact.specs.Meaning.Lent.{lent}
-use Rattle.exact.specs.Matrices.Same.{Same-sym, Same-trans}
-use Rattle.exact.specs.Outcomes.Ladder.{Only}
-use Rattle.clifford.specs.Words.{by_test, under, before}
+use Rattle.exact.proofs.Matrices.Same.{Same-sym, Same-trans}
+use Rattle.exact.proofs.Outcomes.Ladder.{Only}
+use Rattle.clifford.proofs.Words.{by_test, under, before}
 use Rattle.normal_form.specs.declared.Written.{Written}
 use Rattle.normal_form.specs.Meaning.{Normalises, DropsPhase, WordOutcome, NormaliseOutcome, PhaseFreeOutcome}
 use Rattle.normal_form.specs.Unique.{normalises_single, drops_single}

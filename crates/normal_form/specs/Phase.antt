@@ -6,13 +6,13 @@ use Rattle.exact.specs.Meaning.Matrix.{ByOmega}
 use Rattle.exact.specs.Meaning.Word.{Letter, W, word, tees, bytes}
 use Rattle.exact.specs.Meaning.Limits.{longest, no_refusal}
 use Rattle.exact.specs.Meaning.Lent.{lent}
-use Rattle.exact.specs.Matrices.Same.{Same-of, Same-trans}
-use Rattle.exact.specs.Matrices.Phase.{ws_behind}
-use Rattle.exact.specs.Unique.PhaseFree.{phase_free_tees, phase_free_length, by_omega_same, same_by_omega, power_named}
-use Rattle.exact.specs.Cases.Letters.{bytes_inj, bytes_length}
-use Rattle.exact.specs.Outcomes.Places.{of_bytes, one_normal}
-use Rattle.exact.specs.Outcomes.Lent.{handed_same}
-use Rattle.clifford.specs.Words.{under, pass}
+use Rattle.exact.proofs.Matrices.Same.{Same-of, Same-trans}
+use Rattle.exact.proofs.Matrices.Phase.{ws_behind}
+use Rattle.exact.proofs.Unique.PhaseFree.{phase_free_tees, phase_free_length, by_omega_same, same_by_omega, power_named}
+use Rattle.exact.proofs.Cases.Letters.{bytes_inj, bytes_length}
+use Rattle.exact.proofs.Outcomes.Places.{of_bytes, one_normal}
+use Rattle.exact.proofs.Outcomes.Lent.{handed_same}
+use Rattle.clifford.proofs.Words.{under, pass}
 use Rattle.reading.specs.Readings.{start, run}
 use Rattle.writing.specs.Endings.{text_of}
 use Rattle.normal_form.specs.declared.Written.{Written}

@@ -7,10 +7,10 @@ use Rattle.exact.specs.Meaning.Limits.{longest, no_refusal, long_refusal, letter
 use Rattle.exact.specs.Meaning.Outcome.{none, ◌then◌}
 use Rattle.exact.specs.Meaning.Lent.{lent, untouched, Writes}
 use Rattle.exact.specs.Meaning.Refusals.{long, letter, room}
-use Rattle.exact.specs.Cases.Outside.{third, i_first, i_third}
-use Rattle.exact.specs.Outcomes.Ladder.{only_refused}
-use Rattle.exact.specs.Outcomes.Places.{one_plain, one_letter}
-use Rattle.exact.specs.Outcomes.Lent.{handed_same}
+use Rattle.exact.proofs.Cases.Outside.{third, i_first, i_third}
+use Rattle.exact.proofs.Outcomes.Ladder.{only_refused}
+use Rattle.exact.proofs.Outcomes.Places.{one_plain, one_letter}
+use Rattle.exact.proofs.Outcomes.Lent.{handed_same}
 use Rattle.normal_form.specs.declared.Written.{Written}
 use Rattle.normal_form.specs.Meaning.{refused, counts, WordOutcome}
 

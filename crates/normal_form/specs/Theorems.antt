@@ -8,14 +8,14 @@ use Rattle.exact.specs.Meaning.Word.{Letter, I, S, W, T', word, tees, bytes, Spe
 use Rattle.exact.specs.Meaning.Normal.{Normal, times, spell, without_w}
 use Rattle.exact.specs.Meaning.Limits.{longest, no_refusal, room_refusal}
 use Rattle.exact.specs.Meaning.Lent.{Lent, lent, over, untouched, Writes}
-use Rattle.exact.specs.Matrices.Test.{same_test, same_by}
-use Rattle.exact.specs.Unique.Normal.{normal_fewest}
-use Rattle.exact.specs.Outcomes.Ladder.{Only, always}
-use Rattle.exact.specs.Cases.Letters.{bytes_inj, bytes_length, none_outside, eq_word}
-use Rattle.exact.specs.Cases.NormalTest.{shape_of, normal_test, normal_by}
-use Rattle.exact.specs.Cases.Table.{Row, Each, each_more, cases, Normalised, all_cases}
-use Rattle.exact.specs.Cases.PhaseFree.{Freed, word_test, freed_test, freed_by}
-use Rattle.exact.specs.Outcomes.Lent.{handed_same, bytes_same}
+use Rattle.exact.proofs.Matrices.Test.{same_test, same_by}
+use Rattle.exact.proofs.Unique.Normal.{normal_fewest}
+use Rattle.exact.proofs.Outcomes.Ladder.{Only, always}
+use Rattle.exact.proofs.Cases.Letters.{bytes_inj, bytes_length, none_outside, eq_word}
+use Rattle.exact.proofs.Cases.NormalTest.{shape_of, normal_test, normal_by}
+use Rattle.exact.proofs.Cases.Table.{Row, Each, each_more, cases, Normalised, all_cases}
+use Rattle.exact.proofs.Cases.PhaseFree.{Freed, word_test, freed_test, freed_by}
+use Rattle.exact.proofs.Outcomes.Lent.{handed_same, bytes_same}
 use Rattle.normal_form.specs.declared.Written.{Written}
 use Rattle.normal_form.specs.Meaning.{Normalises, DropsPhase, refused, counts, word_refusals, WordOutcome, NormaliseOutcome, PhaseFreeOutcome}
 use Rattle.normal_form.specs.Unique.{normalises_single, drops_single, outcome_unique}

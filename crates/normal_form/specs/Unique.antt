@@ -2,10 +2,10 @@
 use Rattle.std.specs.Prelude.{◌≡◌, List, ℕ}
 use Rattle.exact.specs.Meaning.Word.{Letter as Gate, word, bytes, Spelled}
 use Rattle.exact.specs.Meaning.Lent.{lent, untouched, Writes}
-use Rattle.exact.specs.Unique.PhaseFree.{phase_free_once}
-use Rattle.exact.specs.Outcomes.Ladder.{Only, one_outcome}
-use Rattle.exact.specs.Outcomes.Places.{one_plain, one_letter, one_spelled, one_normal}
-use Rattle.exact.specs.Outcomes.Lent.{one_written}
+use Rattle.exact.proofs.Unique.PhaseFree.{phase_free_once}
+use Rattle.exact.proofs.Outcomes.Ladder.{Only, one_outcome}
+use Rattle.exact.proofs.Outcomes.Places.{one_plain, one_letter, one_spelled, one_normal}
+use Rattle.exact.proofs.Outcomes.Lent.{one_written}
 use Rattle.normal_form.specs.declared.Written.{Written}
 use Rattle.normal_form.specs.Meaning.{Normalises, DropsPhase, refused, counts, word_refusals, WordOutcome}
 

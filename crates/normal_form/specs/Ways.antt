@@ -6,11 +6,11 @@ use Rattle.exact.specs.Meaning.Limits.{longest, long_refusal, letter_refusal, ro
 use Rattle.exact.specs.Meaning.Outcome.{Rung, none, ◌then◌}
 use Rattle.exact.specs.Meaning.Lent.{lent, over, untouched}
 use Rattle.exact.specs.Meaning.Refusals.{long, letter}
-use Rattle.exact.specs.Cases.Letters.{bytes_length, none_outside}
-use Rattle.exact.specs.Outcomes.Ladder.{Only, Passed}
-use Rattle.exact.specs.Outcomes.Places.{one_spelled}
-use Rattle.exact.specs.Outcomes.Lent as Lent
-use Rattle.exact.specs.Outcomes.Lent.{written_as}
+use Rattle.exact.proofs.Cases.Letters.{bytes_length, none_outside}
+use Rattle.exact.proofs.Outcomes.Ladder.{Only, Passed}
+use Rattle.exact.proofs.Outcomes.Places.{one_spelled}
+use Rattle.exact.proofs.Outcomes.Lent as Lent
+use Rattle.exact.proofs.Outcomes.Lent.{written_as}
 use Rattle.normal_form.specs.declared.Written.{Written}
 use Rattle.normal_form.specs.Meaning.{refused, counts, WordOutcome}
 

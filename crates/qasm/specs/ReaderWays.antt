@@ -7,13 +7,14 @@ use Rattle.exact.specs.Meaning.Limits.{longest, statement_refusal, long_refusal,
 use Rattle.exact.specs.Meaning.Outcome.{Rung}
 use Rattle.exact.specs.Meaning.Lent.{lent}
 use Rattle.exact.specs.Meaning.Text.{Stops}
-use Rattle.exact.specs.Cases.Letters.{bytes_length}
-use Rattle.exact.specs.Outcomes.Lent as Lent
+use Rattle.exact.proofs.Cases.Letters.{bytes_length}
+use Rattle.exact.proofs.Outcomes.Lent as Lent
 use Rattle.qasm.specs.declared.Written.{Written}
 use Rattle.circuit_reader.specs.declared.Walked.{Walked}
 use Rattle.circuit.specs.Meaning.{Right, letters, Reads}
 use Rattle.qasm.specs.Meaning.{refused, accepted, ReadOutcome}
-use Rattle.circuit.specs.Lines.{one_reading, OfCircuit}
+use Rattle.circuit.specs.Lines.{OfCircuit}
+use Rattle.circuit.proofs.Lines.{one_reading}
 use Rattle.circuit_reader.specs.Reading.{WalkIs}
 use Rattle.circuit_letters.specs.Letters.{PutsLetters}
 use Rattle.qasm.specs.WriterWays.{stays}

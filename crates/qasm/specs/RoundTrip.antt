@@ -9,16 +9,16 @@ use Rattle.exact.specs.Meaning.Word.{Letter, I, H, S, X, W, T', word, byte, byte
 use Rattle.exact.specs.Meaning.Normal.{NormalOf}
 use Rattle.exact.specs.Meaning.Limits.{longest}
 use Rattle.exact.specs.Meaning.Lent.{lent, over, untouched, Writes}
-use Rattle.exact.specs.Matrices.Same.{Same-of, Same-trans}
-use Rattle.exact.specs.Cases.Letters.{bytes_length, bytes_inj}
-use Rattle.exact.specs.Outcomes.Ladder.{Passed, answered}
-use Rattle.exact.specs.Outcomes.Lent.{handed_same, bytes_same}
+use Rattle.exact.proofs.Matrices.Same.{Same-of, Same-trans}
+use Rattle.exact.proofs.Cases.Letters.{bytes_length, bytes_inj}
+use Rattle.exact.proofs.Outcomes.Ladder.{Passed, answered}
+use Rattle.exact.proofs.Outcomes.Lent.{handed_same, bytes_same}
 use Rattle.qasm.specs.declared.Written.{Written}
 use Rattle.circuit.specs.Meaning.{Edition, two, three, row, Statement, h', s', t', x', allowed, AllAllowed, text, Right, circuit}
 use Rattle.circuit.specs.Meaning.{less_i, matrix, Reads}
 use Rattle.qasm.specs.Meaning.{refused, accepted, Circuits, write_refusals, WriteOutcome, read_refusals, ReadOutcome}
-use Rattle.circuit.specs.Lines.{allowed_append, each, computed, one_reading}
-use Rattle.circuit.specs.Gates.{letters_circuit, circuit_matrix, word_matrix}
+use Rattle.circuit.proofs.Lines.{allowed_append, each, computed, one_reading}
+use Rattle.circuit.proofs.Gates.{letters_circuit, circuit_matrix, word_matrix}
 
 -- ---- a word's circuit is allowed where the edition has a phase, or the word has no W
 module _ (l : Letter) (u : List Letter) (other : byte l ≡ byte W → ⊥) where

@@ -3,13 +3,13 @@ use Rattle.std.specs.Prelude.{◌≡◌, List, ℕ}
 use Rattle.std.proofs.Common.{sym, ◌∙◌}
 use Rattle.exact.specs.Meaning.Word.{bytes, Spelled}
 use Rattle.exact.specs.Meaning.Lent.{Lent, untouched, Writes}
-use Rattle.exact.specs.Outcomes.Ladder.{OnePlace, one_outcome}
-use Rattle.exact.specs.Outcomes.Places.{one_plain, one_letter, one_first, one_stop, one_spelled}
-use Rattle.exact.specs.Outcomes.Lent.{one_written}
+use Rattle.exact.proofs.Outcomes.Ladder.{OnePlace, one_outcome}
+use Rattle.exact.proofs.Outcomes.Places.{one_plain, one_letter, one_first, one_stop, one_spelled}
+use Rattle.exact.proofs.Outcomes.Lent.{one_written}
 use Rattle.qasm.specs.declared.Written.{Written}
 use Rattle.circuit.specs.Meaning.{Edition, two, three, text, Reads}
 use Rattle.qasm.specs.Meaning.{refused, accepted, Circuits, write_refusals, WriteOutcome, read_refusals, ReadOutcome}
-use Rattle.circuit.specs.Lines.{one_reading}
+use Rattle.circuit.proofs.Lines.{one_reading}
 
 one_place : (e : Edition) (w old : List ℕ) → OnePlace (write_refusals e w old)
 one_place two w old = (one_plain, (one_letter, (one_first, (one_plain, tt))))

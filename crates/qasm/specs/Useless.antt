@@ -8,10 +8,10 @@ use Rattle.exact.specs.Meaning.Limits as Limits
 use Rattle.exact.specs.Meaning.Outcome.{none, ◌then◌}
 use Rattle.exact.specs.Meaning.Lent.{lent, over, untouched, Writes}
 use Rattle.exact.specs.Meaning.Refusals.{long_answer, room, statement}
-use Rattle.exact.specs.Cases.Letters.{bytes_length, bytes_inj, none_outside}
-use Rattle.exact.specs.Outcomes.Ladder.{Passed, only_refused}
-use Rattle.exact.specs.Outcomes.Places.{one_stop}
-use Rattle.exact.specs.Outcomes.Lent.{handed_same, bytes_same}
+use Rattle.exact.proofs.Cases.Letters.{bytes_length, bytes_inj, none_outside}
+use Rattle.exact.proofs.Outcomes.Ladder.{Passed, only_refused}
+use Rattle.exact.proofs.Outcomes.Places.{one_stop}
+use Rattle.exact.proofs.Outcomes.Lent.{handed_same, bytes_same}
 use Rattle.circuit.specs.Meaning.{Edition, two, three, row, Statement, h', t', sdg, tdg, AllAllowed, text, Right, letters, circuit, Reads}
 use Rattle.qasm.specs.declared.Written.{Written}
 use Rattle.qasm.specs.Meaning.{refused, accepted, Circuits, write_refusals, WriteOutcome, ReadOutcome}

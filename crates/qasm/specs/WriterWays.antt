@@ -6,8 +6,9 @@ use Rattle.exact.specs.Meaning.Word.{Letter as Gate, W, byte, FirstOutside, Firs
 use Rattle.exact.specs.Meaning.Limits.{longest, circuit_enough, long_refusal, letter_refusal, phase_refusal, room_refusal}
 use Rattle.exact.specs.Meaning.Outcome.{Rung}
 use Rattle.exact.specs.Meaning.Lent.{lent, untouched}
-use Rattle.exact.specs.Cases.Letters.{letters_of, letters_of_bytes, letters_of_length, none_outside}
-use Rattle.exact.specs.Outcomes.Lent as Lent
+use Rattle.exact.specs.Cases.Letters.{letters_of}
+use Rattle.exact.proofs.Cases.Letters.{letters_of_bytes, letters_of_length, none_outside}
+use Rattle.exact.proofs.Outcomes.Lent as Lent
 use Rattle.lent.specs.Written.{Written as Puts, written_both, written_over}
 use Rattle.qasm.specs.declared.Written.{Written}
 use Rattle.qasm.specs.declared.Edition as Declared

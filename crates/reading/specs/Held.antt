@@ -7,7 +7,8 @@ use Rattle.std.proofs.lemmas.List.{take-set-le}
 use Rattle.std.proofs.Math.Seq.{take-append_seam, get_or-append_seam}
 use Rattle.exact.specs.Meaning.Word.{Letter}
 use Rattle.exact.specs.Meaning.Normal as normal
-use Rattle.exact.specs.Cases.Letters.{letters_of, letters_of_length}
+use Rattle.exact.specs.Cases.Letters.{letters_of}
+use Rattle.exact.proofs.Cases.Letters.{letters_of_length}
 use Rattle.clifford.specs.declared.Axis.{Axis}
 use Rattle.clifford.specs.declared.Clifford.{Clifford}
 use Rattle.reading.specs.declared.Reading.{Reading}

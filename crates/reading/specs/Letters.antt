@@ -6,7 +6,8 @@ use Rattle.exact.specs.Meaning.Word.{byte, IsLetter}
 use Rattle.exact.specs.Meaning.Limits as Limits
 use Rattle.exact.specs.Outcomes.Enums.{Says}
 use Rattle.exact.specs.Meaning.Refusals.{letter}
-use Rattle.exact.specs.Cases.Letters.{letter_of, letters_of, letter_back, is_letter, Inside}
+use Rattle.exact.specs.Cases.Letters.{letter_of, letters_of, Inside}
+use Rattle.exact.proofs.Cases.Letters.{letter_back, is_letter}
 use Rattle.reading.specs.declared.Read.{Read}
 use Rattle.reading.specs.Readings.{start, run}
 use Rattle.reading.specs.Steps.{letter_number, letter_at, letter_at_is, number_few, number_of}

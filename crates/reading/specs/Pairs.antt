@@ -7,10 +7,13 @@ use Rattle.exact.specs.Meaning.Normal.{Syllable, HT, SHT}
 use Rattle.clifford.specs.declared.Axis.{Axis}
 use Rattle.clifford.specs.declared.Clifford.{Clifford}
 use Rattle.clifford.specs.Meaning.{letters, Ranged, axis_number}
-use Rattle.clifford.specs.Unique.{axis_at_lem, one_Clifford}
-use Rattle.clifford.specs.Words.{◌≈◌, by_eq, by_sym, ◌⨾◌, under, before}
-use Rattle.clifford.specs.Tables.{quadruple, all, at, all3, at3}
-use Rattle.clifford.specs.Cliffords.{mul_c, mul_ranged, tconj_c, tconj_ranged, H_ranged, clifford_x, clifford_s, clifford_w, clifford_h, clifford_HS, clifford_SHS}
+use Rattle.clifford.proofs.Unique.{axis_at_lem, one_Clifford}
+use Rattle.clifford.specs.Words.{◌≈◌}
+use Rattle.clifford.proofs.Words.{by_eq, by_sym, ◌⨾◌, under, before}
+use Rattle.clifford.specs.Tables.{quadruple, all}
+use Rattle.clifford.proofs.Tables.{at, all3, at3}
+use Rattle.clifford.specs.Cliffords.{mul_c, tconj_c, clifford_x, clifford_s, clifford_w, clifford_h, clifford_HS, clifford_SHS}
+use Rattle.clifford.proofs.Cliffords.{mul_ranged, tconj_ranged, H_ranged}
 use Rattle.reading.specs.Readings.{State, state, tee, read, times_Clifford, X_ranged, W_ranged, S_ranged, HS_ranged, SHS_ranged}
 
 -- ---- one letter: 0 where the syllables stay, 1 where a T meets the last of them, 2 where HT is added and 3 where SHT is

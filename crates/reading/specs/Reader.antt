@@ -2,7 +2,8 @@
 use Rattle.std.specs.Prelude.{◌≡◌, refl, List, [], ◌∷◌, ℕ, ◌+◌, ◌≤◌, ◌<◌, length, take, get_or}
 use Rattle.std.proofs.Common.{sym, ◌∙◌, ap, ap₂, subst, add-one, arith, take-suc, take_all}
 use Rattle.exact.specs.Meaning.Word.{I, FirstOutside}
-use Rattle.exact.specs.Cases.Letters.{letter_of, letters_of, letters_of_append, Inside, inside_none, inside_more}
+use Rattle.exact.specs.Cases.Letters.{letter_of, letters_of, Inside}
+use Rattle.exact.proofs.Cases.Letters.{letters_of_append, inside_none, inside_more}
 use Rattle.reading.specs.declared.Read.TheVariants as Read
 use Rattle.reading.specs.declared.Reading.{Reading}
 use Rattle.reading.specs.Held.{Blank, Holds, Readable, Steps, pair, count_few}

@@ -7,16 +7,19 @@ use Rattle.exact.specs.Meaning.Word.{Letter, I, H, S, X, W, T', word, tees}
 use Rattle.exact.specs.Meaning.Normal.{Syllable, HT, SHT, Front, nothing, onlyH, onlySH, Tail, Shape, Fits, Normal, times, front_word, tail_word, or_i}
 use Rattle.exact.specs.Meaning.Normal.{after, leading, spell, without_w, PhaseFree}
 use Rattle.exact.specs.Meaning.Clifford.{cycle}
-use Rattle.exact.specs.Matrices.Same.{Same-of}
-use Rattle.exact.specs.Unique.Normal.{spell_word}
-use Rattle.exact.specs.Unique.Tails.{tees_append}
+use Rattle.exact.proofs.Matrices.Same.{Same-of}
+use Rattle.exact.proofs.Unique.Normal.{spell_word}
+use Rattle.exact.proofs.Unique.Tails.{tees_append}
 use Rattle.clifford.specs.declared.Axis.{Axis}
 use Rattle.clifford.specs.declared.Clifford.{Clifford}
 use Rattle.clifford.specs.declared.Coset.{Coset}
 use Rattle.clifford.specs.Meaning.{letters, axis_word, axis_number, Ranged, Split}
-use Rattle.clifford.specs.Words.{◌≈◌, by_test, by_refl, by_eq, by_sym, ◌⨾◌, under, before}
-use Rattle.clifford.specs.Cliffords.{mul_c, mul_right, mul_ranged, split_c, split_right, tconj_c, tconj_ranged, tconj_same, few, clifford_i, clifford_x}
-use Rattle.clifford.specs.Cliffords.{clifford_s, clifford_w, clifford_h, clifford_HS, clifford_SHS, H_is, HS_is, SHS_is, H_ranged}
+use Rattle.clifford.specs.Words.{◌≈◌}
+use Rattle.clifford.proofs.Words.{by_test, by_refl, by_eq, by_sym, ◌⨾◌, under, before}
+use Rattle.clifford.specs.Cliffords.{mul_c, split_c, tconj_c, clifford_i, clifford_x}
+use Rattle.clifford.proofs.Cliffords.{mul_right, mul_ranged, split_right, tconj_ranged, tconj_same, few}
+use Rattle.clifford.specs.Cliffords.{clifford_s, clifford_w, clifford_h, clifford_HS, clifford_SHS}
+use Rattle.clifford.proofs.Cliffords.{H_is, HS_is, SHS_is, H_ranged}
 
 -- the syllables with the last one first
 pub record State : Type 0 where

@@ -5,16 +5,19 @@ use Rattle.std.proofs.Common.{sym, ◌∙◌, ap, subst, arith, eqb-true, ne_eqb
 use Rattle.std.proofs.Math.Facts.{and_yes}
 use Rattle.std.specs.Int.{w8}
 use Rattle.exact.specs.Meaning.Word.{Letter, I, H, S, X, W, T', byte, IsLetter}
-use Rattle.exact.specs.Cases.Letters.{letter_of, is_letter}
+use Rattle.exact.specs.Cases.Letters.{letter_of}
+use Rattle.exact.proofs.Cases.Letters.{is_letter}
 use Rattle.clifford.specs.declared.Axis.{Axis}
 use Rattle.clifford.specs.declared.Clifford.{Clifford}
 use Rattle.clifford.specs.declared.Coset.{Coset}
 use Rattle.reading.specs.declared.steps.Step.{Step}
 use Rattle.reading.specs.declared.steps.Tail.{Tail}
 use Rattle.clifford.specs.Meaning.{Ranged, axis_number}
-use Rattle.clifford.specs.Unique.{axis_at_lem}
-use Rattle.clifford.specs.Tables.{quadruple, all, at}
-use Rattle.clifford.specs.Cliffords.{mul_c, split_c, split_right}
+use Rattle.clifford.proofs.Unique.{axis_at_lem}
+use Rattle.clifford.specs.Tables.{quadruple, all}
+use Rattle.clifford.proofs.Tables.{at}
+use Rattle.clifford.specs.Cliffords.{mul_c, split_c}
+use Rattle.clifford.proofs.Cliffords.{split_right}
 use Rattle.reading.specs.Readings.{tail_size, letters_in, tail_size_lem}
 use Rattle.reading.specs.Pairs.{kind₂, next₂, eq_clifford, eq_clifford_is}
 use Rattle.reading.specs.Syllables.{syllable_of, made}

@@ -4,7 +4,7 @@ use Rattle.std.proofs.Common.{sym, ◌∙◌, ap, ap₂, subst, arith, drop_of_l
 use Rattle.std.specs.Int.{w64}
 use Rattle.std.proofs.lemmas.Int.{to_z-of_z}
 use Rattle.exact.specs.Meaning.Record.{InRange}
-use Rattle.exact.specs.Whole.Machine.{held}
+use Rattle.exact.proofs.Whole.Machine.{held}
 use Rattle.decimal.specs.Decimal.{cons_head, cons_tail}
 use Rattle.decimal.specs.Format.{Format, Found, Missing, Once, natural, whole, once_whole}
 use Rattle.decimal.specs.Read.{WholeIs, NaturalIs}

@@ -5,8 +5,8 @@ use Rattle.exact.specs.Meaning.Number.{Ω}
 use Rattle.exact.specs.Meaning.Outcome.{none, ◌then◌}
 use Rattle.exact.specs.Meaning.Record.{Numbers, RingInRange, RightRecord, digits, text, line, four, record_text}
 use Rattle.exact.specs.Meaning.Refusals.{malformed}
-use Rattle.exact.specs.Outcomes.Ladder.{Only, one_outcome}
-use Rattle.exact.specs.Outcomes.Places.{one_plain}
+use Rattle.exact.proofs.Outcomes.Ladder.{Only, one_outcome}
+use Rattle.exact.proofs.Outcomes.Places.{one_plain}
 use Rattle.decimal.specs.Format.{Format, Found, Missing, Once, natural, whole, once_natural, once_whole}
 use Rattle.record.specs.Meaning.{numbers, refused_record, Reads, ReadOutcome}
 use Rattle.record.specs.Format.{Four, before, named, four_numbers, k_line, n_line, ring_line, once_named, once_both}

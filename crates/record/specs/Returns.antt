@@ -5,7 +5,7 @@ use Rattle.std.specs.Int.{w8, w64}
 use Rattle.exact.specs.Meaning.Limits.{no_refusal, record_refusal}
 use Rattle.exact.specs.Meaning.Outcome.{Rung}
 use Rattle.exact.specs.Meaning.Record.{Numbers, RightRecord}
-use Rattle.exact.specs.Whole.Machine.{held}
+use Rattle.exact.proofs.Whole.Machine.{held}
 use Rattle.decimal.specs.Format.{Found, Missing}
 use Rattle.record.specs.Meaning.{numbers, refused_record, ReadOutcome}
 use Rattle.record.specs.Format.{k_line, n_line, ring_line, found_both, missing_first, missing_second}

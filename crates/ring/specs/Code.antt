@@ -4,9 +4,9 @@ use Rattle.std.specs.Prelude.{◌≡◌, List, [], ◌∷◌, ℕ, ◌^◌, T, �
 use Rattle.std.specs.Int.{w64}
 use mir.Val.{SFits, hbits}
 use Rattle.exact.specs.Meaning.Number.{ints, Sized}
-use Rattle.exact.specs.Algebra.Solver.{at}
-use Rattle.exact.specs.Whole.Size.{Within}
-use Rattle.exact.specs.Whole.Machine.{Code, value, held, ran, all_fit, need_by, result_by}
+use Rattle.exact.proofs.Algebra.Solver.{at}
+use Rattle.exact.proofs.Whole.Size.{Within}
+use Rattle.exact.proofs.Whole.Machine.{Code, value, held, ran, all_fit, need_by, result_by}
 use Rattle.ring.specs.Meaning.{quad}
 use Rattle.ring.specs.Number.{four}
 use Rattle.ring.specs.declared.ZOmega.{ZOmega}

@@ -5,12 +5,14 @@ use Rattle.std.proofs.Common.{◌∙◌, ap, arith, SFits, to_z-of_z}
 use Rattle.std.specs.Int.Signed.{shr_z, mag_shr}
 use Rattle.std.specs.Int.{w64}
 use Rattle.exact.specs.Meaning.Number.{ints, mul_q, root2, root2^}
-use Rattle.exact.specs.Whole.Size.{mag_abs, sfits_abs}
-use Rattle.exact.specs.Whole.Machine.{Code, arg, ◌∔◌, ◌∸◌, halved, held, ran}
-use Rattle.exact.specs.Algebra.Solver.{at}
-use Rattle.exact.specs.Algebra.Omega.{quad_path}
-use Rattle.exact.specs.Algebra.Over.{divides, over_times}
-use Rattle.exact.specs.Algebra.Twos.{Multiple, shifted_times}
+use Rattle.exact.proofs.Whole.Size.{mag_abs, sfits_abs}
+use Rattle.exact.proofs.Whole.Machine.{Code, arg, ◌∔◌, ◌∸◌, halved, held, ran}
+use Rattle.exact.proofs.Algebra.Solver.{at}
+use Rattle.exact.proofs.Algebra.Omega.{quad_path}
+use Rattle.exact.specs.Algebra.Over.{divides}
+use Rattle.exact.proofs.Algebra.Over.{over_times}
+use Rattle.exact.specs.Algebra.Twos.{Multiple}
+use Rattle.exact.proofs.Algebra.Twos.{shifted_times}
 use Rattle.ring.specs.Code.{is₁}
 use Rattle.ring.specs.Meaning.{quad}
 use Rattle.ring.specs.Number.{Small, four}

@@ -3,11 +3,11 @@ use Rattle.std.specs.Prelude.{◌≡◌, List, [], ◌∷◌, ℕ, ◌-◌, ◌^
 use Rattle.std.proofs.Common.{sym, ◌∙◌, ap, arith, SFits, to_z-of_z}
 use Rattle.std.specs.Int.{w64}
 use Rattle.exact.specs.Meaning.Number.{Quad, Ω, ints, quads, power, neg_q, mul_q, conj_q, omega', omega^, Sized}
-use Rattle.exact.specs.Algebra.Ring.{ints_laws}
-use Rattle.exact.specs.Algebra.Solver.{Expr, con, ◌⊝◌, exprs}
-use Rattle.exact.specs.Algebra.Omega.{X₀, parts, solve_q}
-use Rattle.exact.specs.Whole.Size.{nat_abs_sub, sfits_abs}
-use Rattle.exact.specs.Whole.Machine.{held}
+use Rattle.exact.proofs.Algebra.Ring.{ints_laws}
+use Rattle.exact.proofs.Algebra.Solver.{Expr, con, ◌⊝◌, exprs}
+use Rattle.exact.proofs.Algebra.Omega.{X₀, parts, solve_q}
+use Rattle.exact.proofs.Whole.Size.{nat_abs_sub, sfits_abs}
+use Rattle.exact.proofs.Whole.Machine.{held}
 use Rattle.ring.specs.declared.ZOmega.{ZOmega}
 use Rattle.ring.specs.Meaning.{quad}
 

@@ -4,8 +4,8 @@ use Rattle.std.specs.Prelude.{◌≡◌, refl, Bool, true, false, not, ◌&&◌,
 use Rattle.std.proofs.Common.{sym, ◌∙◌, ap}
 use Rattle.std.specs.Int.{w64}
 use Rattle.exact.specs.Meaning.Number.{odd, bit, residue}
-use Rattle.exact.specs.Whole.Parity.{false_true}
-use Rattle.exact.specs.Whole.Machine.{arg, ◌∔◌, held}
+use Rattle.exact.proofs.Whole.Parity.{false_true}
+use Rattle.exact.proofs.Whole.Machine.{arg, ◌∔◌, held}
 use Rattle.exact.specs.Algebra.Over.{divides}
 use Rattle.ring.specs.Code.{is₁}
 use Rattle.ring.specs.Meaning.{quad}

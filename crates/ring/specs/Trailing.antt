@@ -4,10 +4,11 @@ use Rattle.std.proofs.Common.{sym, ◌∙◌, ap, arith, ltb-true, Fits, SFits, 
 use Rattle.std.specs.Int.Count.{count_trailing_zeros}
 use Rattle.std.specs.Int.Signed.{lt_z, non_neg}
 use Rattle.std.specs.Int.{w8, w64}
-use Rattle.exact.specs.Whole.Parity.{false_true}
-use Rattle.exact.specs.Whole.Machine.{held}
-use Rattle.exact.specs.Whole.Flipped.{flipped, flip_held}
-use Rattle.exact.specs.Whole.Twos.{Zeros, zeros_none, zeros_some}
+use Rattle.exact.proofs.Whole.Parity.{false_true}
+use Rattle.exact.proofs.Whole.Machine.{held}
+use Rattle.exact.proofs.Whole.Flipped.{flipped, flip_held}
+use Rattle.exact.specs.Whole.Twos.{Zeros}
+use Rattle.exact.proofs.Whole.Twos.{zeros_none, zeros_some}
 
 -- ---- below 0
 below_size : (x : ℤ) → SFits w64 x → lt_z x (pos 0) ≡ true

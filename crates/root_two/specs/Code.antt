@@ -7,12 +7,15 @@ use Rattle.std.specs.Int.{w64}
 use Rattle.exact.specs.Meaning.Number.{ints}
 use Rattle.exact.specs.Meaning.Rotation as Exact
 use Rattle.exact.specs.Meaning.Rotation.{add_r, times_r, lift}
-use Rattle.exact.specs.Whole.Machine.{held}
-use Rattle.exact.specs.Whole.Size.{nat_abs_neg, nat_abs_add, sfits_abs}
-use Rattle.exact.specs.Algebra.RootTwo.{neg_r, root_path}
-use Rattle.exact.specs.Algebra.RootPower.{DividesR, lift_r, evenly_lift, oddly_lift}
-use Rattle.exact.specs.Rotation.Vectors.{vect_path, lift_parts}
-use Rattle.exact.specs.Rotation.Sizes.{Up, up_le, up_add}
+use Rattle.exact.proofs.Whole.Machine.{held}
+use Rattle.exact.proofs.Whole.Size.{nat_abs_neg, nat_abs_add, sfits_abs}
+use Rattle.exact.specs.Algebra.RootTwo.{neg_r}
+use Rattle.exact.proofs.Algebra.RootTwo.{root_path}
+use Rattle.exact.specs.Algebra.RootPower.{DividesR, lift_r}
+use Rattle.exact.proofs.Algebra.RootPower.{evenly_lift, oddly_lift}
+use Rattle.exact.proofs.Rotation.Vectors.{vect_path, lift_parts}
+use Rattle.exact.specs.Rotation.Sizes.{Up}
+use Rattle.exact.proofs.Rotation.Sizes.{up_le, up_add}
 use Rattle.exact.specs.Rotation.Worked.{sub_r}
 use Rattle.root_two.specs.Meaning.{root}
 use Rattle.root_two.specs.declared.Root.{Root}

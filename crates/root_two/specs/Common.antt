@@ -5,8 +5,9 @@ use Rattle.std.specs.Int.Bits.{bit_or}
 use Rattle.std.specs.Int.{w64}
 use Rattle.std.proofs.Math.Facts.{of_z-to_z}
 use Rattle.exact.specs.Meaning.Rotation.{Vect}
-use Rattle.exact.specs.Whole.Machine.{held}
-use Rattle.exact.specs.Whole.Twos.{TwoTo, or_z, or_fits, or_sfits, or_each, or_all}
+use Rattle.exact.proofs.Whole.Machine.{held}
+use Rattle.exact.specs.Whole.Twos.{TwoTo}
+use Rattle.exact.proofs.Whole.Twos.{or_z, or_fits, or_sfits, or_each, or_all}
 
 -- r has the trailing zeros that a, b and c share
 pub record Common (a b c r : ℤ) : Type 0 where

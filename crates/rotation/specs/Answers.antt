@@ -10,15 +10,15 @@ use Rattle.exact.specs.Meaning.Rotation.{◌∘◌, SameRotation, Orthogonal}
 use Rattle.exact.specs.Meaning.Limits.{deepest, no_refusal}
 use Rattle.exact.specs.Meaning.Outcome.{none}
 use Rattle.exact.specs.Meaning.Refusals.{checks}
-use Rattle.exact.specs.Matrices.Same.{Same-sym}
-use Rattle.exact.specs.Matrices.Triples.{unitary_isometry, unitary_same}
-use Rattle.exact.specs.Outcomes.Ladder.{Passed, accepted, through, always, carry}
-use Rattle.exact.specs.Outcomes.Checked.{checks_taken}
-use Rattle.exact.specs.Rotation.Laws.{rotation_same, rotation_mul, rotation_phase, rotation_moved, one_rotation}
-use Rattle.exact.specs.Rotation.Orthogonal.{orthogonal}
-use Rattle.exact.specs.Rotation.Sizes.{Shorts, shorts}
-use Rattle.exact.specs.Rotation.Least.{none_fewer, least_once, least_moved}
-use Rattle.exact.specs.Rotation.Few.{least_few, least_under}
+use Rattle.exact.proofs.Matrices.Same.{Same-sym}
+use Rattle.exact.proofs.Matrices.Triples.{unitary_isometry, unitary_same}
+use Rattle.exact.proofs.Outcomes.Ladder.{Passed, accepted, through, always, carry}
+use Rattle.exact.proofs.Outcomes.Checked.{checks_taken}
+use Rattle.exact.proofs.Rotation.Laws.{rotation_same, rotation_mul, rotation_phase, rotation_moved, one_rotation}
+use Rattle.exact.proofs.Rotation.Orthogonal.{orthogonal}
+use Rattle.exact.proofs.Rotation.Sizes.{Shorts, shorts}
+use Rattle.exact.proofs.Rotation.Least.{none_fewer, least_once, least_moved}
+use Rattle.exact.proofs.Rotation.Few.{least_few, least_under}
 use Rattle.ring.specs.Meaning.{quad}
 use Rattle.ring.specs.declared.ZOmega.{ZOmega}
 use Rattle.unitary.specs.Meaning.{given}

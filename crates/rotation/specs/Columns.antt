@@ -7,16 +7,18 @@ use Rattle.exact.specs.Meaning.Number.{Ω, ints, Sized, mul_q, conj_q}
 use Rattle.exact.specs.Meaning.Triple.{squares, crosses, Unitary}
 use Rattle.exact.specs.Meaning.Rotation as Exact
 use Rattle.exact.specs.Meaning.Rotation.{add_r}
-use Rattle.exact.specs.Whole.Machine.{held}
-use Rattle.exact.specs.Whole.Size.{nat_abs_neg, bound, Within, abs_by}
-use Rattle.exact.specs.Algebra.Solver.{Expr, exprs, eval, at}
-use Rattle.exact.specs.Algebra.Omega.{X₀, X₁, parts}
-use Rattle.exact.specs.Algebra.RootTwo.{neg_r, root_path}
-use Rattle.exact.specs.Matrices.Sizes.{sized_le, z_sized, w_sized, squares_size, crosses_size}
-use Rattle.exact.specs.Rotation.Vectors.{vect_path}
-use Rattle.exact.specs.Rotation.Sizes.{Up, UpC, up_le, up_neg, up_of_neg}
+use Rattle.exact.proofs.Whole.Machine.{held}
+use Rattle.exact.proofs.Whole.Size.{nat_abs_neg, bound, Within, abs_by}
+use Rattle.exact.proofs.Algebra.Solver.{Expr, exprs, eval, at}
+use Rattle.exact.proofs.Algebra.Omega.{X₀, X₁, parts}
+use Rattle.exact.specs.Algebra.RootTwo.{neg_r}
+use Rattle.exact.proofs.Algebra.RootTwo.{root_path}
+use Rattle.exact.proofs.Matrices.Sizes.{sized_le, z_sized, w_sized, squares_size, crosses_size}
+use Rattle.exact.proofs.Rotation.Vectors.{vect_path}
+use Rattle.exact.specs.Rotation.Sizes.{Up, UpC}
+use Rattle.exact.proofs.Rotation.Sizes.{up_le, up_neg, up_of_neg}
 use Rattle.exact.specs.Rotation.Worked.{square_re, square_im, twice_re, twice_im, sub_r, norms, columns, with_n}
-use Rattle.exact.specs.Rotation.Few.{columns_up}
+use Rattle.exact.proofs.Rotation.Few.{columns_up}
 use Rattle.ring.specs.Meaning.{quad}
 use Rattle.ring.specs.Number.{Small}
 use Rattle.ring.specs.declared.ZOmega.{ZOmega}

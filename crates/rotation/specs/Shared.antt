@@ -3,8 +3,9 @@ use Rattle.std.specs.Prelude.{◌≡◌, ℕ, suc, ◌+◌, ◌-◌, ◌*◌, �
 use Rattle.std.proofs.Common.{sym, ◌∙◌, ap, subst, arith, SFits, of_z, to_z, to_z-of_z}
 use Rattle.std.specs.Int.{w64}
 use Rattle.exact.specs.Meaning.Rotation.{Root, Three, Vect, lift}
-use Rattle.exact.specs.Whole.Machine.{held}
-use Rattle.exact.specs.Whole.Twos.{TwoTo, Zeros, less_often}
+use Rattle.exact.proofs.Whole.Machine.{held}
+use Rattle.exact.specs.Whole.Twos.{TwoTo, Zeros}
+use Rattle.exact.proofs.Whole.Twos.{less_often}
 use Rattle.root_two.specs.Common.{Common, SharesP, SharesQ, common_back}
 use Rattle.exact.specs.Algebra.RootPower.{DividesR}
 use Rattle.exact.specs.Rotation.Least.{DividesV, Divides, Deepest, lifts}

@@ -5,10 +5,12 @@ use Rattle.std.proofs.Common.{sym, ◌∙◌, ap, subst, arith}
 use Rattle.exact.specs.Meaning.Number.{Ω, ints}
 use Rattle.exact.specs.Meaning.Triple.{entries, Unitary}
 use Rattle.exact.specs.Meaning.Rotation.{Three, Vect, add_v, times_v, Rotation, RotationOf}
-use Rattle.exact.specs.Matrices.Least.{mod_eight_same}
-use Rattle.exact.specs.Rotation.Sizes.{UpV, UpC, up_neg}
-use Rattle.exact.specs.Rotation.Worked.{with_n, columns, columns_rotation, neg_v, quarter, eighth, eighth_more, quarters, quarters_more}
-use Rattle.exact.specs.Rotation.Few.{columns_up}
+use Rattle.exact.proofs.Matrices.Least.{mod_eight_same}
+use Rattle.exact.specs.Rotation.Sizes.{UpV, UpC}
+use Rattle.exact.proofs.Rotation.Sizes.{up_neg}
+use Rattle.exact.specs.Rotation.Worked.{with_n, columns, neg_v, quarter, eighth, quarters}
+use Rattle.exact.proofs.Rotation.Worked.{columns_rotation, eighth_more, quarters_more}
+use Rattle.exact.proofs.Rotation.Few.{columns_up}
 use Rattle.ring.specs.Meaning.{quad}
 use Rattle.ring.specs.declared.ZOmega.{ZOmega}
 use Rattle.root_two.specs.Meaning.{vect}

@@ -5,11 +5,11 @@ use Rattle.exact.specs.Meaning.Matrix.{Matrix}
 use Rattle.exact.specs.Meaning.Triple.{entries}
 use Rattle.exact.specs.Meaning.Rotation as Exact
 use Rattle.exact.specs.Meaning.Refusals.{checks}
-use Rattle.exact.specs.Matrices.Same.{Same-refl}
-use Rattle.exact.specs.Outcomes.Ladder.{Only, one_outcome}
-use Rattle.exact.specs.Outcomes.Checked.{checks_one}
-use Rattle.exact.specs.Rotation.Laws.{rotation_same, one_rotation}
-use Rattle.exact.specs.Rotation.Least.{least_once, least_moved}
+use Rattle.exact.proofs.Matrices.Same.{Same-refl}
+use Rattle.exact.proofs.Outcomes.Ladder.{Only, one_outcome}
+use Rattle.exact.proofs.Outcomes.Checked.{checks_one}
+use Rattle.exact.proofs.Rotation.Laws.{rotation_same, one_rotation}
+use Rattle.exact.proofs.Rotation.Least.{least_once, least_moved}
 use Rattle.ring.specs.Meaning.{quad}
 use Rattle.ring.specs.declared.ZOmega.{ZOmega}
 use Rattle.unitary.specs.Meaning.{given}

@@ -11,12 +11,12 @@ use Rattle.exact.specs.Meaning.Rotation as Exact
 use Rattle.exact.specs.Meaning.Rotation.{LeastExponent, RotationOf}
 use Rattle.exact.specs.Meaning.Refusals.{checks}
 use Rattle.exact.specs.Meaning.Outcome.{none}
-use Rattle.exact.specs.Cases.NormalTest.{normal_by}
-use Rattle.exact.specs.Matrices.Test.{same_by}
-use Rattle.exact.specs.Outcomes.Ladder.{pass, answered}
-use Rattle.exact.specs.Outcomes.Checked.{Taken, taken_checks}
-use Rattle.exact.specs.Rotation.Laws.{word_rotation, rotation_word, rotation_moved}
-use Rattle.exact.specs.Rotation.Least.{least_once, normal_least}
+use Rattle.exact.proofs.Cases.NormalTest.{normal_by}
+use Rattle.exact.proofs.Matrices.Test.{same_by}
+use Rattle.exact.proofs.Outcomes.Ladder.{pass, answered}
+use Rattle.exact.proofs.Outcomes.Checked.{Taken, taken_checks}
+use Rattle.exact.proofs.Rotation.Laws.{word_rotation, rotation_word, rotation_moved}
+use Rattle.exact.proofs.Rotation.Least.{least_once, normal_least}
 use Rattle.ring.specs.Meaning.{quad}
 use Rattle.ring.specs.declared.ZOmega.{ZOmega}
 use Rattle.unitary.specs.Meaning.{given}

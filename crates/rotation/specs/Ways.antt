@@ -7,9 +7,10 @@ use Rattle.exact.specs.Meaning.Triple.{entries, Unitary}
 use Rattle.exact.specs.Meaning.Rotation as Exact
 use Rattle.exact.specs.Meaning.Rotation.{LeastExponent, RotationOf}
 use Rattle.exact.specs.Meaning.Outcome.{none}
-use Rattle.exact.specs.Whole.Machine.{held}
-use Rattle.exact.specs.Rotation.Laws.{rotation_written}
-use Rattle.exact.specs.Rotation.Least.{Deepest, quotient, lowered_same, lowered_least, least_moved}
+use Rattle.exact.proofs.Whole.Machine.{held}
+use Rattle.exact.proofs.Rotation.Laws.{rotation_written}
+use Rattle.exact.specs.Rotation.Least.{Deepest}
+use Rattle.exact.proofs.Rotation.Least.{quotient, lowered_same, lowered_least, least_moved}
 use Rattle.exact.specs.Rotation.Worked.{with_n}
 use Rattle.ring.specs.Meaning.{quad}
 use Rattle.ring.specs.declared.ZOmega.{ZOmega}

@@ -1,9 +1,5 @@
 -- What letters give a slot's record, how that is told from the record alone, and what the two calls promise.
 pub mod Meaning
-pub mod Shown
-pub mod Letters
 pub mod Tests
 pub mod Standing
 pub mod Ways
-pub mod Unique
-pub mod Theorems

@@ -5,10 +5,5 @@ pub mod Residues
 pub mod Step
 pub mod Closing
 pub mod Steps
-pub mod Followed
-pub mod Exactly
 pub mod Counts
-pub mod Synthesised
-pub mod Tees
 pub mod Meets
-pub mod Cases

@@ -1,13 +1,5 @@
 -- Synthesis: what job 4 promises (`Meaning`), and how its functions meet the steps of crate `steps`.
 pub mod Meaning
-pub mod Counted
-pub mod Loop
-pub mod Unique
 pub mod Code
 pub mod Closes
-pub mod Parts
 pub mod Answer
-pub mod Enough
-pub mod OneMatrix
-pub mod Cheapest
-pub mod Useless

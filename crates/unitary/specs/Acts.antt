@@ -3,19 +3,22 @@ use Rattle.std.specs.Prelude.{◌≡◌, refl, Bool, true, false, not, ◌&&◌,
 use Rattle.std.proofs.Common.{sym, ◌∙◌, ap, ap₂, subst, arith, ne_eqb}
 use Rattle.exact.specs.Meaning.Matrix.{Same, ◌·◌, unit}
 use Rattle.exact.specs.Meaning.Word.{Letter, I, H, S, X, W, T', letter, byte}
-use Rattle.exact.specs.Cases.Letters.{letter_of, letter_of_byte}
+use Rattle.exact.specs.Cases.Letters.{letter_of}
+use Rattle.exact.proofs.Cases.Letters.{letter_of_byte}
 use Rattle.exact.specs.Meaning.Triple.{Triple, entries, Unitary, Reduced}
 use Rattle.exact.specs.Meaning.Limits.{deepest}
 use Rattle.exact.specs.Meaning.Number.{Ω, ints, omegas, neg_q, mul_q, omega', omega^, odd, Sized}
-use Rattle.exact.specs.Whole.Parity.{odd_add, odd_sub, xr_comm}
-use Rattle.exact.specs.Algebra.Solver.{con, ◌⊗◌, ring₂}
-use Rattle.exact.specs.Algebra.Omega.{omegas_laws, times_omega}
+use Rattle.exact.proofs.Whole.Parity.{odd_add, odd_sub, xr_comm}
+use Rattle.exact.proofs.Algebra.Solver.{con, ◌⊗◌, ring₂}
+use Rattle.exact.proofs.Algebra.Omega.{omegas_laws, times_omega}
 use Rattle.exact.specs.Algebra.Over.{divides}
-use Rattle.exact.specs.Matrices.Same.{Same-refl, Same-sym, Same-trans, Same-of, Same-mul, mul_assoc, unit_mul}
-use Rattle.exact.specs.Matrices.Test.{same_by}
-use Rattle.exact.specs.Matrices.Triples.{act, acts, unitary_same, unitary_act}
-use Rattle.exact.specs.Matrices.Sizes.{z_sized, w_sized, sized_le, add_sized, neg_sized, omega_sized}
-use Rattle.exact.specs.Matrices.Least.{mod_eight, mod_eight_same, test_reduced, reduced_test_lem, reduced_test, lowest}
+use Rattle.exact.proofs.Matrices.Same.{Same-refl, Same-sym, Same-trans, Same-of, Same-mul, mul_assoc, unit_mul}
+use Rattle.exact.proofs.Matrices.Test.{same_by}
+use Rattle.exact.specs.Matrices.Triples.{act}
+use Rattle.exact.proofs.Matrices.Triples.{acts, unitary_same, unitary_act}
+use Rattle.exact.proofs.Matrices.Sizes.{z_sized, w_sized, sized_le, add_sized, neg_sized, omega_sized}
+use Rattle.exact.specs.Matrices.Least.{mod_eight, reduced_test, lowest}
+use Rattle.exact.proofs.Matrices.Least.{mod_eight_same, test_reduced, reduced_test_lem}
 use Rattle.ring.specs.Meaning.{quad}
 use Rattle.ring.specs.Number.{Small}
 use Rattle.ring.specs.declared.ZOmega.{ZOmega}

@@ -11,10 +11,10 @@ use Rattle.exact.specs.Meaning.Limits.{largest, deepest}
 use Rattle.exact.specs.Meaning.Outcome as Meaning
 use Rattle.exact.specs.Meaning.Outcome.{Rung, ◌also◌, Decides}
 use Rattle.exact.specs.Meaning.Refusals.{InExponents, InCoefficients, checks}
-use Rattle.exact.specs.Outcomes.Ladder.{pass, check_passed, check_refused}
-use Rattle.exact.specs.Outcomes.Checked.{Taken, checks_taken, taken_checks, checks_placeless}
-use Rattle.exact.specs.Whole.Machine.{held}
-use Rattle.exact.specs.Matrices.Sizes.{sized_le}
+use Rattle.exact.proofs.Outcomes.Ladder.{pass, check_passed, check_refused}
+use Rattle.exact.proofs.Outcomes.Checked.{Taken, checks_taken, taken_checks, checks_placeless}
+use Rattle.exact.proofs.Whole.Machine.{held}
+use Rattle.exact.proofs.Matrices.Sizes.{sized_le}
 use Rattle.ring.specs.Meaning.{quad}
 use Rattle.ring.specs.Number.{Small}
 use Rattle.ring.specs.declared.ZOmega.{ZOmega}

@@ -9,11 +9,12 @@ use Rattle.exact.specs.Meaning.Number.{ints, Sized}
 use Rattle.exact.specs.Meaning.Triple.{Triple, squares, crosses, Unitary}
 use Rattle.exact.specs.Meaning.Limits.{largest, deepest}
 use Rattle.exact.specs.Algebra.Over.{divides}
-use Rattle.exact.specs.Whole.Linear.{int, sum, difference}
-use Rattle.exact.specs.Whole.Parity.{false_true}
-use Rattle.exact.specs.Whole.Size.{sfits_abs}
-use Rattle.exact.specs.Whole.Machine.{held, arg, lit, ◌∸◌, need_by}
-use Rattle.exact.specs.Matrices.Sizes.{squares_size, crosses_size}
+use Rattle.exact.proofs.Whole.Linear.{int}
+use Rattle.exact.proofs.Whole.Linear.{sum, difference}
+use Rattle.exact.proofs.Whole.Parity.{false_true}
+use Rattle.exact.proofs.Whole.Size.{sfits_abs}
+use Rattle.exact.proofs.Whole.Machine.{held, arg, lit, ◌∸◌, need_by}
+use Rattle.exact.proofs.Matrices.Sizes.{squares_size, crosses_size}
 use Rattle.ring.specs.Meaning.{quad}
 use Rattle.ring.specs.declared.ZOmega.{ZOmega}
 use Rattle.exact.specs.Meaning.Outcome.{Decides}

@@ -3,8 +3,9 @@ use Rattle.std.specs.Prelude.{◌≡◌, Bool, true, false, not, List, ℕ, ◌+
 use Rattle.std.proofs.Common.{sym, arith, eqb-true}
 use Rattle.std.proofs.lemmas.Bool.{eqb-false, not-true, not-false}
 use Rattle.exact.specs.Meaning.Word.{Letter, I, H, S, X, W, T', byte, IsLetter, FirstOutside}
-use Rattle.exact.specs.Cases.Letters.{Inside, inside_more}
-use Rattle.exact.specs.Whole.Parity.{false_true}
+use Rattle.exact.specs.Cases.Letters.{Inside}
+use Rattle.exact.proofs.Cases.Letters.{inside_more}
+use Rattle.exact.proofs.Whole.Parity.{false_true}
 use Rattle.exact.specs.Meaning.Outcome.{Decides}
 
 pub record Scanned (bs : List ℕ) (r : ℕ) : Type 0 where

@@ -11,11 +11,13 @@ use Rattle.exact.specs.Meaning.Limits as Limits
 use Rattle.exact.specs.Meaning.Limits.{longest, deepest}
 use Rattle.exact.specs.Meaning.Outcome.{Outcome, Rung, none, ◌then◌}
 use Rattle.exact.specs.Meaning.Refusals.{long, letter, deep}
-use Rattle.exact.specs.Outcomes.Ladder.{Passed, pass}
-use Rattle.exact.specs.Outcomes.Places.{not_both}
-use Rattle.exact.specs.Cases.Letters.{letter_of, letters_of, bytes_inj, bytes_back, inside_passes}
-use Rattle.exact.specs.Matrices.Same.{Same-refl, Same-trans, Same-of, Same-mul}
-use Rattle.exact.specs.Matrices.Least.{least_same, reduced_test, test_reduced}
+use Rattle.exact.proofs.Outcomes.Ladder.{Passed, pass}
+use Rattle.exact.proofs.Outcomes.Places.{not_both}
+use Rattle.exact.specs.Cases.Letters.{letter_of, letters_of}
+use Rattle.exact.proofs.Cases.Letters.{bytes_inj, bytes_back, inside_passes}
+use Rattle.exact.proofs.Matrices.Same.{Same-refl, Same-trans, Same-of, Same-mul}
+use Rattle.exact.specs.Matrices.Least.{reduced_test}
+use Rattle.exact.proofs.Matrices.Least.{least_same, test_reduced}
 use Rattle.exact.specs.Matrices.Triples.{identity}
 use Rattle.unitary.specs.declared.DOmegaUnitary.{DOmegaUnitary}
 use Rattle.unitary.specs.declared.FromGates.{FromGates}

@@ -10,13 +10,18 @@ use Rattle.std.specs.Int.{w64}
 use Rattle.exact.specs.Meaning.Number.{Ω, ints, mul_q, root2}
 use Rattle.exact.specs.Meaning.Matrix.{Same}
 use Rattle.exact.specs.Meaning.Triple.{Triple, entries}
-use Rattle.exact.specs.Whole.Twos.{Zeros, TwoTo, less_often, or_z, or_fits, or_each, or_all}
-use Rattle.exact.specs.Algebra.Omega.{omegas_laws}
-use Rattle.exact.specs.Algebra.Over.{divides, over, over_times}
-use Rattle.exact.specs.Algebra.Twos.{Multiple, Shares, quotient_sized, twice_more}
-use Rattle.exact.specs.Matrices.Same.{Same-trans, Same-of}
-use Rattle.exact.specs.Matrices.Divided.{Divided, divided_same}
-use Rattle.exact.specs.Matrices.Least.{mod_eight, mod_eight_same, test_reduced, reduced_test, lowest}
+use Rattle.exact.specs.Whole.Twos.{Zeros, TwoTo}
+use Rattle.exact.proofs.Whole.Twos.{less_often, or_z, or_fits, or_each, or_all}
+use Rattle.exact.proofs.Algebra.Omega.{omegas_laws}
+use Rattle.exact.specs.Algebra.Over.{divides, over}
+use Rattle.exact.proofs.Algebra.Over.{over_times}
+use Rattle.exact.specs.Algebra.Twos.{Multiple, Shares}
+use Rattle.exact.proofs.Algebra.Twos.{quotient_sized, twice_more}
+use Rattle.exact.proofs.Matrices.Same.{Same-trans, Same-of}
+use Rattle.exact.specs.Matrices.Divided.{Divided}
+use Rattle.exact.proofs.Matrices.Divided.{divided_same}
+use Rattle.exact.specs.Matrices.Least.{mod_eight, reduced_test, lowest}
+use Rattle.exact.proofs.Matrices.Least.{mod_eight_same, test_reduced}
 use Rattle.ring.specs.Meaning.{quad}
 use Rattle.ring.specs.Number.{Small}
 use Rattle.unitary.specs.Meaning.{triple, Answers}

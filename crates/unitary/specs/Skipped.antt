@@ -7,9 +7,9 @@ use Rattle.exact.specs.Meaning.Triple.{entries}
 use Rattle.exact.specs.Meaning.Limits as Limits
 use Rattle.exact.specs.Meaning.Outcome.{none, ◌then◌}
 use Rattle.exact.specs.Meaning.Refusals.{long, letter, deep, InExponents, exponent, coefficient, unitary}
-use Rattle.exact.specs.Cases.Outside.{third, i_third}
-use Rattle.exact.specs.Outcomes.Ladder.{only_refused}
-use Rattle.exact.specs.Outcomes.Places.{one_plain, one_letter}
+use Rattle.exact.proofs.Cases.Outside.{third, i_third}
+use Rattle.exact.proofs.Outcomes.Ladder.{only_refused}
+use Rattle.exact.proofs.Outcomes.Places.{one_plain, one_letter}
 use Rattle.ring.specs.Meaning.{quad}
 use Rattle.ring.specs.declared.ZOmega.{ZOmega}
 use Rattle.unitary.specs.declared.Checked.{Checked}

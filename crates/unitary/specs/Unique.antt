@@ -6,12 +6,12 @@ use Rattle.exact.specs.Meaning.Word.{Letter, word, Spelled}
 use Rattle.exact.specs.Meaning.Triple.{Triple, entries, Unitary}
 use Rattle.exact.specs.Meaning.Outcome.{none, ◌then◌}
 use Rattle.exact.specs.Meaning.Refusals.{long, letter, deep, checks}
-use Rattle.exact.specs.Matrices.Same.{Same-sym, Same-trans, Same-of}
-use Rattle.exact.specs.Matrices.Least.{answer_unique}
-use Rattle.exact.specs.Matrices.Triples.{word_triple, word_unitary, unitary_same}
-use Rattle.exact.specs.Outcomes.Ladder.{Only, one_outcome}
-use Rattle.exact.specs.Outcomes.Places.{one_plain, one_letter, one_deep, one_spelled}
-use Rattle.exact.specs.Outcomes.Checked.{checks_taken, checks_one}
+use Rattle.exact.proofs.Matrices.Same.{Same-sym, Same-trans, Same-of}
+use Rattle.exact.proofs.Matrices.Least.{answer_unique}
+use Rattle.exact.proofs.Matrices.Triples.{word_triple, word_unitary, unitary_same}
+use Rattle.exact.proofs.Outcomes.Ladder.{Only, one_outcome}
+use Rattle.exact.proofs.Outcomes.Places.{one_plain, one_letter, one_deep, one_spelled}
+use Rattle.exact.proofs.Outcomes.Checked.{checks_taken, checks_one}
 use Rattle.ring.specs.Meaning.{quad}
 use Rattle.ring.specs.declared.ZOmega.{ZOmega}
 use Rattle.unitary.specs.declared.DOmegaUnitary.{DOmegaUnitary}

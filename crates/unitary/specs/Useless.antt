@@ -2,13 +2,13 @@
 -- are not allowed. Assumes nothing.
 use Rattle.std.specs.Prelude.{◌≡◌, refl, [], ℕ, suc, ◌<◌, pos}
 use Rattle.std.proofs.Common.{sym, ap, subst, arith}
-use Rattle.exact.specs.Matrices.Same.{Same-of}
-use Rattle.exact.specs.Matrices.Least.{test_reduced}
+use Rattle.exact.proofs.Matrices.Same.{Same-of}
+use Rattle.exact.proofs.Matrices.Least.{test_reduced}
 use Rattle.exact.specs.Meaning.Triple.{entries, Reduced}
 use Rattle.exact.specs.Meaning.Outcome.{none}
 use Rattle.exact.specs.Meaning.Refusals.{checks}
-use Rattle.exact.specs.Outcomes.Ladder.{pass}
-use Rattle.exact.specs.Outcomes.Checked.{Taken, taken_checks}
+use Rattle.exact.proofs.Outcomes.Ladder.{pass}
+use Rattle.exact.proofs.Outcomes.Checked.{Taken, taken_checks}
 use Rattle.ring.specs.Meaning.{quad}
 use Rattle.ring.specs.declared.ZOmega.{ZOmega}
 use Rattle.unitary.specs.declared.Checked.{Checked}

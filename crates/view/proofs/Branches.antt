@@ -14,8 +14,8 @@ use mir.Val.{SFits}
 use Rattle.view.specs.Meaning.Surd.{Surd, over}
 use Rattle.view.specs.Meaning.Near.{Shows}
 use Rattle.view.specs.Size.{Fit}
-use Rattle.exact.specs.Whole.Machine as Machine
-use Rattle.exact.specs.Whole.Machine.{arg, ◌∔◌, need_by, result_by}
+use Rattle.exact.proofs.Whole.Machine as Machine
+use Rattle.exact.proofs.Whole.Machine.{arg, ◌∔◌, need_by, result_by}
 
 -- a number, stored and read back
 abbrev held : ℤ → ℤ

@@ -10,7 +10,7 @@ use lib.IntN.{ℤ, pos, negsuc, nat_abs}
 use lib.Dec.{lit≤, lit<}
 use Rattle.exact.specs.Meaning.Number.{up, down}
 use Rattle.view.specs.Meaning.Near.{is_neg}
-use Rattle.view.specs.Root.{Rn}
+use Rattle.view.proofs.Root.{Rn}
 
 -- p - p' ≤ (q - q') * √2, where the subtraction of ℕ stops at 0
 pub record Below (p p' q q' : ℕ) : Type 0 where

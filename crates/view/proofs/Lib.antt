@@ -11,3 +11,9 @@ mod Zero
 mod Numbers
 mod Branches
 mod Job
+pub mod Root
+pub mod Size
+pub mod Tied
+pub mod Unique
+pub mod Cases
+pub mod Useless

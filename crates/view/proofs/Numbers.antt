@@ -9,9 +9,9 @@ use lib.Signed.{non_neg, yes_non_neg}
 use mir.Syntax.{w32}
 use mir.Val.{Fits}
 use Rattle.exact.specs.Meaning.Number.{Ω, ints, omegas, mul_q, omega', omega^}
-use Rattle.exact.specs.Algebra.Solver.{◌⊗◌, ring₃}
-use Rattle.exact.specs.Algebra.Omega.{omegas_laws}
-use Rattle.exact.specs.Algebra.OmegaPower.{omega^_mod}
+use Rattle.exact.proofs.Algebra.Solver.{◌⊗◌, ring₃}
+use Rattle.exact.proofs.Algebra.Omega.{omegas_laws}
+use Rattle.exact.proofs.Algebra.OmegaPower.{omega^_mod}
 use Rattle.exact.specs.Meaning.Refusals.{InExponents}
 use Rattle.unitary.specs.Checks.{exponent_size}
 

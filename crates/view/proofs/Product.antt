@@ -10,7 +10,7 @@ use lib.Pow.{pow_pos}
 use lib.Ieee.{Float, binary64, round, mul}
 use lib.Ieee.Exact.{HasValue}
 use Rattle.view.specs.Meaning.Near.{root_two, is_neg}
-use Rattle.view.specs.Root.{Rn, root_value}
+use Rattle.view.proofs.Root.{Rn, root_value}
 use Rattle.view.proofs.Casting.{neg_positive}
 use Rattle.view.proofs.Rounding.{Rounded, round_near}
 use Rattle.view.proofs.Operations.{mul_of}

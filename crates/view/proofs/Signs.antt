@@ -8,7 +8,7 @@ use native.Mathlib.Omega.{arith}
 use lib.IntN.{ℤ, pos, negsuc, neg_ℤ, nat_abs, ◌-ℤ◌, ◌*ℤ◌}
 use lib.Dec.{T}
 use Rattle.exact.specs.Meaning.Number.{up, down}
-use Rattle.exact.specs.Whole.Linear.{difference, negation}
+use Rattle.exact.proofs.Whole.Linear.{difference, negation}
 use Rattle.view.specs.Meaning.Near.{is_neg, AtMost}
 use Rattle.view.proofs.Error.{Below, loosen, Parts}
 

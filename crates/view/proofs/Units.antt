@@ -11,7 +11,7 @@ use lib.Dec.{T, leb, leb→le, nleb→lt, lit≤, lit<}
 use lib.Pow.{pow-add, pow_pos, pow-lt, shl_lt}
 use lib.Ieee.{Float, nan, inf, fin, binary64, up, down, unlike, round, mul}
 use lib.Ieee.Exact.{HasValue, round_exact}
-use Rattle.view.specs.Root.{Rn}
+use Rattle.view.proofs.Root.{Rn}
 use Rattle.view.proofs.Rounding.{power_split}
 use Rattle.view.proofs.Operations.{mul_of}
 

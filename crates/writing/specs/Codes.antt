@@ -3,7 +3,7 @@ use Rattle.std.specs.Prelude.{◌≡◌, refl, Bool, true, false, List, [], ◌�
 use Rattle.std.proofs.Common.{sym, ◌∙◌, ap, ap₂, subst, append_assoc, append-nil, add-one, arith, length-append, take-suc, take-add}
 use Rattle.exact.specs.Meaning.Word.{Letter, byte, bytes}
 use Rattle.exact.specs.Meaning.Normal as normal
-use Rattle.exact.specs.Cases.Letters.{bytes_length}
+use Rattle.exact.proofs.Cases.Letters.{bytes_length}
 use Rattle.reading.specs.declared.Reading.{Reading}
 use Rattle.reading.specs.declared.Syllable.{Syllable}
 use Rattle.reading.specs.Readings.{State, syllable, prefix}

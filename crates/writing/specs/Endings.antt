@@ -4,13 +4,14 @@ use Rattle.std.proofs.Common.{sym, ◌∙◌, ap, subst, append-nil, zero-add, s
 use Rattle.std.proofs.lemmas.Bool.{eqb-false}
 use Rattle.exact.specs.Meaning.Word.{Letter, I, H, S, X, W, byte, bytes, tees}
 use Rattle.exact.specs.Meaning.Normal.{Tail, times, tail_word, or_i, spell}
-use Rattle.exact.specs.Unique.Tails.{tees_append}
+use Rattle.exact.proofs.Unique.Tails.{tees_append}
 use Rattle.clifford.specs.declared.Axis.{Axis}
 use Rattle.clifford.specs.declared.Clifford.{Clifford}
 use Rattle.clifford.specs.declared.Coset.{Coset}
 use Rattle.writing.specs.declared.Ending.{Ending}
 use Rattle.clifford.specs.Meaning.{Ranged}
-use Rattle.clifford.specs.Cliffords.{split_c, split_right}
+use Rattle.clifford.specs.Cliffords.{split_c}
+use Rattle.clifford.proofs.Cliffords.{split_right}
 use Rattle.reading.specs.Readings.{State, prefix, front_of, shape_to, spelled, times_length}
 
 abbrev pub esses_of : Axis → ℕ

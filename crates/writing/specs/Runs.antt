@@ -1,7 +1,7 @@
 -- The letter at a place of a tail, by how many of its runs end there or before. Assumes nothing.
 use Rattle.std.specs.Prelude.{◌≡◌, refl, Bool, true, false, cond, ℕ, zero, suc, ◌+◌, ◌≤◌, ltb}
 use Rattle.std.proofs.Common.{◌∙◌, arith, ltb-true, lt-ltb}
-use Rattle.exact.specs.Whole.Parity.{false_true}
+use Rattle.exact.proofs.Whole.Parity.{false_true}
 use Rattle.writing.specs.declared.Ending.{Ending}
 use Rattle.writing.specs.Endings.{to_h, to_i, to_x, to_s, letter_in}
 

@@ -1,7 +1,7 @@
 -- `agreement::alike` meets its contract: both refusals are looked at, then the bytes.
 use mathlib.Core.Path.{sym}
 use lib.Seq.{length-take-le}
-use Rattle.agreement.specs.Ways.{first_refused, second_refused, bytes_decide}
+use Rattle.agreement.proofs.Ways.{first_refused, second_refused, bytes_decide}
 use Rattle.agreement.proofs.alike.Goals as goal
 
 pub returns-then-a-ne-ACCEPTED : goal.returns-then-a-ne-ACCEPTED

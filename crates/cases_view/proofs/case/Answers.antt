@@ -1,6 +1,6 @@
 -- No number of the answer is a NaN. Assumes nothing.
 use Rattle.std.proofs.Common.{rules}
-use Rattle.cases_view.specs.Finite.{finite}
+use Rattle.cases_view.proofs.Finite.{finite}
 use Rattle.cases_view.proofs.case.Goals as goal
 
 pub lines-requires : goal.lines-requires

@@ -1,5 +1,5 @@
 -- `clifford::clifford_inverse` meets its contract. Assumes nothing.
-use Rattle.clifford.specs.Cliffords.{inverse_job}
+use Rattle.clifford.proofs.Cliffords.{inverse_job}
 use Rattle.clifford.proofs.clifford_inverse.Goals as goal
 
 pub inverse-requires : goal.inverse-requires

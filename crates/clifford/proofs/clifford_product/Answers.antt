@@ -1,5 +1,5 @@
 -- `clifford::clifford_product` meets its contract. Assumes nothing.
-use Rattle.clifford.specs.Cliffords.{product_job}
+use Rattle.clifford.proofs.Cliffords.{product_job}
 use Rattle.clifford.proofs.clifford_product.Goals as goal
 
 pub product-requires : goal.product-requires

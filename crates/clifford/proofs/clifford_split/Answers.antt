@@ -1,5 +1,5 @@
 -- `clifford::clifford_split` meets its contract. Assumes nothing.
-use Rattle.clifford.specs.Cliffords.{split_job}
+use Rattle.clifford.proofs.Cliffords.{split_job}
 use Rattle.clifford.proofs.clifford_split.Goals as goal
 
 pub decompose_coset-requires : goal.decompose_coset-requires

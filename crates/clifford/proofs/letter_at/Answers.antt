@@ -1,6 +1,6 @@
 -- `clifford::letter_at` meets its contract. Assumes nothing.
 use borrow.Author.Rules.{rules}
-use Rattle.clifford.specs.Moves.{is_X, is_S}
+use Rattle.clifford.proofs.Moves.{is_X, is_S}
 use Rattle.clifford.proofs.letter_at.Goals as goal
 
 pub returns-then-n-b : goal.returns-then-n-b

@@ -1,6 +1,6 @@
 -- `clifford::past` meets its contract. Assumes nothing.
 use borrow.Author.Rules.{rules}
-use Rattle.clifford.specs.Moves.{move_few, past_by}
+use Rattle.clifford.proofs.Moves.{move_few, past_by}
 use Rattle.clifford.proofs.past.Goals as goal
 
 pub bounds-i-i : goal.bounds-i-i

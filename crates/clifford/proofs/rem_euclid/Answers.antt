@@ -1,6 +1,6 @@
 -- `clifford::rem_euclid` meets its contract. Assumes nothing.
 use native.Mathlib.Omega.{arith}
-use Rattle.clifford.specs.Remainder.{y_fits, y_cast, y_few, y_modulo, x_cast, x_few, x_modulo}
+use Rattle.clifford.proofs.Remainder.{y_fits, y_cast, y_few, y_modulo, x_cast, x_few, x_modulo}
 use Rattle.clifford.proofs.rem_euclid.Goals as goal
 
 pub overflow_sub-y : goal.overflow_sub-y

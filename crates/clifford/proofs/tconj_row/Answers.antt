@@ -1,5 +1,5 @@
 -- `clifford::tconj_row` meets its contract. Assumes nothing.
-use Rattle.clifford.specs.Tables.{tconj_row}
+use Rattle.clifford.proofs.Tables.{tconj_row}
 use Rattle.clifford.proofs.tconj_row.Goals as goal
 
 pub returns : goal.returns

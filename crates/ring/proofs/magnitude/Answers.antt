@@ -1,5 +1,5 @@
 -- `ring::magnitude` meets its contract: by -1 - x and one more where x is below 0.
-use Rattle.exact.specs.Whole.Flipped.{flip_fits}
+use Rattle.exact.proofs.Whole.Flipped.{flip_fits}
 use Rattle.ring.specs.Trailing.{flip_cast, flip_more, flip_size, size_cast, size_is}
 use Rattle.ring.proofs.magnitude.Goals as goal
 

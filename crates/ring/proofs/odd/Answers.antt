@@ -3,8 +3,8 @@ use mathlib.Core.Path.{◌∙◌, ap}
 use mathlib.Core.Bool.{not}
 use Prim.Native.Nat.{ℕ}
 use lib.Dec.{eqb}
-use Rattle.exact.specs.Whole.Machine.{low_bit}
-use Rattle.exact.specs.Whole.Parity.{not_even}
+use Rattle.exact.proofs.Whole.Machine.{low_bit}
+use Rattle.exact.proofs.Whole.Parity.{not_even}
 use Rattle.ring.proofs.odd.Goals as goal
 
 pub returns : goal.returns

@@ -1,5 +1,5 @@
 -- `slot::add` meets its contract. Assumes nothing.
-use Rattle.slot.specs.Ways.{told_right, add_wrong, add_outside, add_more}
+use Rattle.slot.proofs.Ways.{told_right, add_wrong, add_outside, add_more}
 use Rattle.slot.proofs.add.Goals as goal
 
 pub returns-then-number-gt-IDENTITY : goal.returns-then-number-gt-IDENTITY

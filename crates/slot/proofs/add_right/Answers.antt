@@ -1,5 +1,5 @@
 -- `slot::add_right` meets its contract. Assumes nothing.
-use Rattle.slot.specs.Ways.{standing_readable, number_few, no_place, one_added}
+use Rattle.slot.proofs.Ways.{standing_readable, number_few, no_place, one_added}
 use Rattle.slot.proofs.add_right.Goals as goal
 
 pub append_gate-requires : goal.append_gate-requires

@@ -1,5 +1,5 @@
 -- `slot::length` meets its contract. Assumes nothing.
-use Rattle.slot.specs.Ways.{length_wrong, length_told}
+use Rattle.slot.proofs.Ways.{length_wrong, length_told}
 use Rattle.slot.proofs.length.Goals as goal
 
 pub returns-in-Wrong : goal.returns-in-Wrong

@@ -1,8 +1,8 @@
 -- `synthesis_of_clifford_t::answer` meets its contract: the letters stand at the start of the working buffer, and their normal word is the answer.
 use Rattle.unitary.specs.Meaning.{triple}
 use Rattle.steps.specs.Steps.{letters}
-use Rattle.synthesis_of_clifford_t.specs.Code.{good_ready}
-use Rattle.synthesis_of_clifford_t.specs.Answer.{word_is, len_inside, word_long, no_room, with_steps}
+use Rattle.synthesis_of_clifford_t.proofs.CodeLaws.{good_ready}
+use Rattle.synthesis_of_clifford_t.proofs.AnswerLaws.{word_is, len_inside, word_long, no_room, with_steps}
 use borrow.Author.Rules.{rules}
 use Rattle.synthesis_of_clifford_t.proofs.answer.Goals as goal
 

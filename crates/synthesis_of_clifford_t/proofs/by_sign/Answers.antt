@@ -1,5 +1,5 @@
 -- `synthesis_of_clifford_t::by_sign` meets its contract: by the sign of x.
-use Rattle.synthesis_of_clifford_t.specs.Closes.{sign_below, sign_above}
+use Rattle.synthesis_of_clifford_t.proofs.Closes.{sign_below, sign_above}
 use Rattle.synthesis_of_clifford_t.proofs.by_sign.Goals as goal
 
 pub returns-then-x-lt0 : goal.returns-then-x-lt0

@@ -1,6 +1,6 @@
 -- `synthesis_of_clifford_t::closing_of` meets its contract: by the residue of z, which is 0 where z is.
-use Rattle.synthesis_of_clifford_t.specs.Closes.{z_small, w_small, unit_small}
-use Rattle.synthesis_of_clifford_t.specs.Closes.{swapped_few, swapped_closes, diagonal_few, diagonal_closes}
+use Rattle.synthesis_of_clifford_t.proofs.Closes.{z_small, w_small, unit_small}
+use Rattle.synthesis_of_clifford_t.proofs.Closes.{swapped_few, swapped_closes, diagonal_few, diagonal_closes}
 use borrow.Author.Rules.{rules}
 use Rattle.synthesis_of_clifford_t.proofs.closing_of.Goals as goal
 

@@ -1,8 +1,8 @@
 -- `synthesis_of_clifford_t::decompose_domega_unitary` meets its contract: each turn takes a step and writes its block into the free
 -- rest; the measure is how many steps there may be.
-use Rattle.synthesis_of_clifford_t.specs.Parts.{writing_start, still_good, still_few, len_inside, length_kept, block_fits}
-use Rattle.synthesis_of_clifford_t.specs.Parts.{count_fits, not_ended, step_few, step_nearer, step_room, step_writing}
-use Rattle.synthesis_of_clifford_t.specs.Parts.{end_room, end_fits, end_put, end_steps}
+use Rattle.synthesis_of_clifford_t.proofs.Parts.{writing_start, still_good, still_few, len_inside, length_kept, block_fits}
+use Rattle.synthesis_of_clifford_t.proofs.Parts.{count_fits, not_ended, step_few, step_nearer, step_room, step_writing}
+use Rattle.synthesis_of_clifford_t.proofs.Parts.{end_room, end_fits, end_put, end_steps}
 use borrow.Author.Rules.{rules}
 use Rattle.synthesis_of_clifford_t.proofs.decompose_domega_unitary.Goals as goal
 

@@ -1,6 +1,6 @@
 -- `synthesis_of_clifford_t::power` is m by the table: its two cases are those of the definition. Assumes nothing.
 use native.Mathlib.Omega.{arith}
-use Rattle.steps.specs.Residues.{bit_shift_few, power_less, power_not_less}
+use Rattle.steps.proofs.Residues.{bit_shift_few, power_less, power_not_less}
 use Rattle.synthesis_of_clifford_t.proofs.power.Goals as goal
 
 pub overflow_add-result : goal.overflow_add-result

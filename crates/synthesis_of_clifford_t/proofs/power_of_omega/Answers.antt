@@ -1,5 +1,5 @@
 -- `synthesis_of_clifford_t::power_of_omega` meets its contract: the first odd coefficient tells.
-use Rattle.synthesis_of_clifford_t.specs.Closes.{power_by_a, power_by_b, power_by_c, power_by_d}
+use Rattle.synthesis_of_clifford_t.proofs.Closes.{power_by_a, power_by_b, power_by_c, power_by_d}
 use Rattle.synthesis_of_clifford_t.proofs.power_of_omega.Goals as goal
 
 pub returns-then-odd : goal.returns-then-odd

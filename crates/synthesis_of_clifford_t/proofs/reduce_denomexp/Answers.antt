@@ -1,8 +1,8 @@
 -- `synthesis_of_clifford_t::reduce_denomexp` meets its contract: the step where k is over 0, and no other.
 use Rattle.unitary.specs.Acts.{good_z, good_w}
-use Rattle.synthesis_of_clifford_t.specs.Code.{residue_few, power_fits, turned_z, turned_w, turned_n, turned_k}
-use Rattle.synthesis_of_clifford_t.specs.Code.{raised_z, raised_w, raised_over_0, raised_over_1}
-use Rattle.synthesis_of_clifford_t.specs.Code.{raised_even_z, raised_even_w, raised_both, step_falls, step_stays}
+use Rattle.synthesis_of_clifford_t.proofs.CodeLaws.{residue_few, power_fits, turned_z, turned_w, turned_n, turned_k}
+use Rattle.synthesis_of_clifford_t.proofs.CodeLaws.{raised_z, raised_w, raised_over_0, raised_over_1}
+use Rattle.synthesis_of_clifford_t.proofs.CodeLaws.{raised_even_z, raised_even_w, raised_both, step_falls, step_stays}
 use borrow.Author.Rules.{rules}
 use Rattle.synthesis_of_clifford_t.proofs.reduce_denomexp.Goals as goal
 

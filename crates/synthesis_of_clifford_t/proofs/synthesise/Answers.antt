@@ -1,6 +1,6 @@
 -- `synthesis_of_clifford_t::synthesise` meets its contract: what the check refuses is refused, and the rest is reduced and answered.
 use Rattle.unitary.specs.Checked.{taken_cast, taken_small, taken_k}
-use Rattle.synthesis_of_clifford_t.specs.Answer.{synthesise_refused, reduced_good, synthesise_answered}
+use Rattle.synthesis_of_clifford_t.proofs.AnswerLaws.{synthesise_refused, reduced_good, synthesise_answered}
 use borrow.Author.Rules.{rules}
 use Rattle.synthesis_of_clifford_t.proofs.synthesise.Goals as goal
 

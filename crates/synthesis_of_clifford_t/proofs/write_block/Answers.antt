@@ -1,5 +1,5 @@
 -- `synthesis_of_clifford_t::write_block` meets its contract: T m modulo 2 times, S half of m times, and H.
-use Rattle.synthesis_of_clifford_t.specs.Parts.{t_room, s_room, h_room, block_put}
+use Rattle.synthesis_of_clifford_t.proofs.Parts.{t_room, s_room, h_room, block_put}
 use Rattle.synthesis_of_clifford_t.proofs.write_block.Goals as goal
 
 pub put_times-a-requires : goal.put_times-a-requires

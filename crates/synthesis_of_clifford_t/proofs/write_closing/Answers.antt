@@ -1,5 +1,5 @@
 -- `synthesis_of_clifford_t::write_closing` meets its contract: T or none, and then the tail.
-use Rattle.synthesis_of_clifford_t.specs.Closes.{tees_room, tail_room, closing_put}
+use Rattle.synthesis_of_clifford_t.proofs.Closes.{tees_room, tail_room, closing_put}
 use Rattle.synthesis_of_clifford_t.proofs.write_closing.Goals as goal
 
 pub put_times-a-requires : goal.put_times-a-requires

@@ -5,7 +5,7 @@ use native.Mathlib.Omega.{arith}
 use borrow.Author.Rules.{rules}
 use lib.ListN.{length}
 use Rattle.exact.specs.Meaning.Word.{bytes}
-use Rattle.exact.specs.Cases.Letters.{bytes_length}
+use Rattle.exact.proofs.Cases.Letters.{bytes_length}
 use Rattle.writing.specs.Endings.{end_word, end_size, end_length, letter_in_lem}
 use Rattle.writing.specs.Put.{putting_none, putting_long, putting_more, putting_all}
 use Rattle.writing.specs.declared.Ending.{Ending}

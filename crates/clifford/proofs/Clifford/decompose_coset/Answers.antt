@@ -1,5 +1,6 @@
 -- `clifford::Clifford::decompose_coset` meets its contract. Assumes nothing.
-use Rattle.clifford.specs.Cliffords.{clifford_h, clifford_SH, inv_ranged, split_none, split_H, split_SH}
+use Rattle.clifford.specs.Cliffords.{clifford_h, clifford_SH}
+use Rattle.clifford.proofs.Cliffords.{inv_ranged, split_none, split_H, split_SH}
 use Rattle.clifford.proofs.Clifford.decompose_coset.Goals as goal
 
 pub product-rest-requires : goal.product-rest-requires

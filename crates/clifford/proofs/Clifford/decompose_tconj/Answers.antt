@@ -1,5 +1,5 @@
 -- `clifford::Clifford::decompose_tconj` meets its contract. Assumes nothing.
-use Rattle.clifford.specs.Cliffords.{tconj_by}
+use Rattle.clifford.proofs.Cliffords.{tconj_by}
 use Rattle.clifford.proofs.Clifford.decompose_tconj.Goals as goal
 
 pub returns : goal.returns

@@ -1,5 +1,5 @@
 -- `clifford::Clifford::inverse` meets its contract. Assumes nothing.
-use Rattle.clifford.specs.Cliffords.{inv_by}
+use Rattle.clifford.proofs.Cliffords.{inv_by}
 use Rattle.clifford.proofs.Clifford.inverse.Goals as goal
 
 pub returns : goal.returns

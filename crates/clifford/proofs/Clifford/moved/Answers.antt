@@ -1,6 +1,6 @@
 -- `clifford::Clifford::moved` meets its contract. Assumes nothing.
 use borrow.Author.Rules.{rules}
-use Rattle.clifford.specs.Moves.{moved_by}
+use Rattle.clifford.proofs.Moves.{moved_by}
 use Rattle.clifford.proofs.Clifford.moved.Goals as goal
 
 pub returns : goal.returns

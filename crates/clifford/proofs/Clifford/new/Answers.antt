@@ -1,5 +1,5 @@
 -- `clifford::Clifford::new` meets its contract. Assumes nothing.
-use Rattle.clifford.specs.Remainder.{reduced_by}
+use Rattle.clifford.proofs.Remainder.{reduced_by}
 use Rattle.clifford.proofs.Clifford.new.Goals as goal
 
 pub returns : goal.returns

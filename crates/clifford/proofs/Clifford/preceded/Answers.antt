@@ -1,7 +1,7 @@
 -- `clifford::Clifford::preceded` meets its contract: what is left stands before what was moved. Assumes nothing.
 use mathlib.Core.Path.{refl}
 use borrow.Author.Rules.{rules}
-use Rattle.clifford.specs.Moves.{going_on, gone}
+use Rattle.clifford.proofs.Moves.{going_on, gone}
 use Rattle.clifford.proofs.Clifford.preceded.Goals as goal
 
 pub loop-left-init : goal.loop-left-init

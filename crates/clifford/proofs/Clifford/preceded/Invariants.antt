@@ -1,6 +1,6 @@
 -- What the loops of `clifford::Clifford::preceded` keep.
 use Prim.Native.Nat.{◌+◌}
-use Rattle.clifford.specs.Moves.{Going}
+use Rattle.clifford.proofs.Moves.{Going}
 use Rattle.clifford.proofs.Clifford.preceded.Given as goal
 
 abbrev pub invariant-loop-left : goal.invariant-loop-left

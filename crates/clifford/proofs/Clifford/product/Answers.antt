@@ -1,5 +1,5 @@
 -- `clifford::Clifford::product` meets its contract. Assumes nothing.
-use Rattle.clifford.specs.Cliffords.{mul_by}
+use Rattle.clifford.proofs.Cliffords.{mul_by}
 use Rattle.clifford.proofs.Clifford.product.Goals as goal
 
 pub returns : goal.returns

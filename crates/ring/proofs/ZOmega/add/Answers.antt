@@ -1,7 +1,7 @@
 -- `ring::ZOmega::add` meets its contract: each coefficient by what its size allows.
 use Prim.Native.Nat.{◌^◌}
-use Rattle.exact.specs.Algebra.Omega.{quad_path}
-use Rattle.exact.specs.Whole.Machine.{arg, ◌∔◌}
+use Rattle.exact.proofs.Algebra.Omega.{quad_path}
+use Rattle.exact.proofs.Whole.Machine.{arg, ◌∔◌}
 use Rattle.ring.specs.Code.{fits₂, is₂}
 use Rattle.ring.proofs.ZOmega.add.Goals as goal
 

@@ -1,5 +1,5 @@
 -- `ring::ZOmega::common` meets its contract: the `or` of the four has the trailing zeros that they share.
-use Rattle.exact.specs.Algebra.Twos.{or_shares}
+use Rattle.exact.proofs.Algebra.Twos.{or_shares}
 use Rattle.ring.specs.Meaning.{quad}
 use Rattle.ring.proofs.ZOmega.common.Goals as goal
 

@@ -3,8 +3,8 @@ use mathlib.Core.Path.{sym, ◌∙◌}
 use Prim.Native.Nat.{◌^◌}
 use lib.IntN.{pos}
 use borrow.Author.Rules.{rules}
-use Rattle.exact.specs.Algebra.Omega.{quad_path}
-use Rattle.exact.specs.Whole.Machine.{arg, lit, ◌∸◌}
+use Rattle.exact.proofs.Algebra.Omega.{quad_path}
+use Rattle.exact.proofs.Whole.Machine.{arg, lit, ◌∸◌}
 use Rattle.ring.specs.Meaning.{quad}
 use Rattle.ring.specs.Number.{conjugated, opposite_fits}
 use Rattle.ring.specs.Code.{is₁}

@@ -1,6 +1,6 @@
 -- `ring::ZOmega::crosses` meets its contract: each coefficient by what its size allows.
 use Prim.Native.Nat.{◌^◌}
-use Rattle.exact.specs.Whole.Machine.{arg, ◌∔◌, ◌∸◌, ◌∗◌}
+use Rattle.exact.proofs.Whole.Machine.{arg, ◌∔◌, ◌∸◌, ◌∗◌}
 use Rattle.ring.specs.Code.{fits₁, is₁}
 use Rattle.ring.proofs.ZOmega.crosses.Goals as goal
 

@@ -1,6 +1,6 @@
 -- `ring::ZOmega::divisible` meets its contract: both sums are even.
 use Prim.Native.Nat.{◌^◌}
-use Rattle.exact.specs.Whole.Machine.{arg, ◌∔◌}
+use Rattle.exact.proofs.Whole.Machine.{arg, ◌∔◌}
 use Rattle.ring.specs.Code.{fits₁}
 use Rattle.ring.specs.Parities.{first_even, first_odd}
 use Rattle.ring.proofs.ZOmega.divisible.Goals as goal

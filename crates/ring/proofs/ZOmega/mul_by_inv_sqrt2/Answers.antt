@@ -1,6 +1,6 @@
 -- `ring::ZOmega::mul_by_inv_sqrt2` meets its contract: each coefficient by what its size allows, and the halves because root two divides.
 use Prim.Native.Nat.{◌^◌}
-use Rattle.exact.specs.Whole.Machine.{arg, ◌∔◌, ◌∸◌}
+use Rattle.exact.proofs.Whole.Machine.{arg, ◌∔◌, ◌∸◌}
 use Rattle.ring.specs.Code.{fits₁}
 use Rattle.ring.specs.Divided.{by_root_two_lem}
 use Rattle.ring.proofs.ZOmega.mul_by_inv_sqrt2.Goals as goal

@@ -1,5 +1,5 @@
 -- `root_two::Vect::add` meets its contract, part by part.
-use Rattle.exact.specs.Rotation.Vectors.{vect_path}
+use Rattle.exact.proofs.Rotation.Vectors.{vect_path}
 use Rattle.root_two.specs.Code.{addable}
 use Rattle.root_two.proofs.Vect.add.Goals as goal
 

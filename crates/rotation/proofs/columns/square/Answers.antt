@@ -1,7 +1,7 @@
 -- `columns::square` meets its contract: each number by what the coefficients' size allows.
 use Prim.Native.Nat.{◌^◌}
-use Rattle.exact.specs.Algebra.RootTwo.{root_path}
-use Rattle.exact.specs.Whole.Machine.{arg, ◌∔◌, ◌∸◌, ◌∗◌}
+use Rattle.exact.proofs.Algebra.RootTwo.{root_path}
+use Rattle.exact.proofs.Whole.Machine.{arg, ◌∔◌, ◌∸◌, ◌∗◌}
 use Rattle.ring.specs.Code.{fits₁, is₁}
 use Rattle.rotation.proofs.columns.square.Goals as goal
 

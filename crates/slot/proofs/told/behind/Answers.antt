@@ -1,6 +1,6 @@
 -- `slot::told::behind` meets its contract. Assumes nothing.
 use native.Mathlib.Omega.{arith}
-use Rattle.slot.specs.Tests.{behind_start, behind_more, behind_end}
+use Rattle.slot.proofs.Tests.{behind_start, behind_more, behind_end}
 use Rattle.slot.proofs.told.behind.Goals as goal
 
 pub loop-i-init : goal.loop-i-init

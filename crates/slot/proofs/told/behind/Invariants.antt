@@ -1,7 +1,7 @@
 -- What the loops of `slot::told::behind` keep.
 use Prim.Native.Nat.{◌-◌}
 use lib.ListN.{length}
-use Rattle.slot.specs.Tests.{Emptying}
+use Rattle.slot.proofs.Tests.{Emptying}
 use Rattle.slot.proofs.told.behind.Given as goal
 
 abbrev pub invariant-loop-i : goal.invariant-loop-i

@@ -1,5 +1,5 @@
 -- `slot::told::check` meets its contract. Assumes nothing.
-use Rattle.slot.specs.Standing.{ranges_by, wrong_ranges}
+use Rattle.slot.proofs.Standing.{ranges_by, wrong_ranges}
 use Rattle.slot.proofs.told.check.Goals as goal
 
 pub check_codes-requires : goal.check_codes-requires

@@ -1,5 +1,5 @@
 -- `slot::told::check_codes` meets its contract. Assumes nothing.
-use Rattle.slot.specs.Standing.{count_room, all_room, right_fronts, stack_few, stands, wrong_bytes, wrong_codes}
+use Rattle.slot.proofs.Standing.{count_room, all_room, right_fronts, stack_few, stands, wrong_bytes, wrong_codes}
 use Rattle.slot.proofs.told.check_codes.Goals as goal
 
 pub codes_right-requires : goal.codes_right-requires

@@ -1,6 +1,6 @@
 -- `slot::told::codes_right` meets its contract. Assumes nothing.
 use native.Mathlib.Omega.{arith}
-use Rattle.slot.specs.Tests.{fronts_none, fronts_first, fronts_more, fronts_end}
+use Rattle.slot.proofs.Tests.{fronts_none, fronts_first, fronts_more, fronts_end}
 use Rattle.slot.proofs.told.codes_right.Goals as goal
 
 pub returns-then-count-eq0 : goal.returns-then-count-eq0

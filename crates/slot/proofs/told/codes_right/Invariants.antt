@@ -1,6 +1,6 @@
 -- What the loops of `slot::told::codes_right` keep.
 use Prim.Native.Nat.{◌-◌}
-use Rattle.slot.specs.Tests.{Fronting}
+use Rattle.slot.proofs.Tests.{Fronting}
 use Rattle.slot.proofs.told.codes_right.Given as goal
 
 abbrev pub invariant-loop-i : goal.invariant-loop-i

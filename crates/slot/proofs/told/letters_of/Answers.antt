@@ -1,6 +1,6 @@
 -- `slot::told::letters_of` meets its contract. Assumes nothing.
 use native.Mathlib.Omega.{arith}
-use Rattle.slot.specs.Tests.{sum_none, code_fits, sum_fits, sum_more, sum_end}
+use Rattle.slot.proofs.Tests.{sum_none, code_fits, sum_fits, sum_more, sum_end}
 use Rattle.slot.proofs.told.letters_of.Goals as goal
 
 pub loop-i-init : goal.loop-i-init

@@ -1,6 +1,6 @@
 -- What the loops of `slot::told::letters_of` keep.
 use Prim.Native.Nat.{◌-◌, ◌≤◌}
-use Rattle.slot.specs.Tests.{Summing}
+use Rattle.slot.proofs.Tests.{Summing}
 use Rattle.slot.proofs.told.letters_of.Given as goal
 
 abbrev pub invariant-loop-i : goal.invariant-loop-i

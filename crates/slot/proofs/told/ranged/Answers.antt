@@ -1,5 +1,5 @@
 -- `slot::told::ranged` meets its contract. Assumes nothing.
-use Rattle.slot.specs.Tests.{many, a_out, b_out, c_out, d_tells}
+use Rattle.slot.proofs.Tests.{many, a_out, b_out, c_out, d_tells}
 use Rattle.slot.proofs.told.ranged.Goals as goal
 
 pub returns-then-rest-gt4096 : goal.returns-then-rest-gt4096

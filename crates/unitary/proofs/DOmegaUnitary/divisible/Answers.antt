@@ -1,7 +1,7 @@
 -- `unitary::DOmegaUnitary::divisible` meets its contract: both are tested, z first.
 use mathlib.Core.Path.{◌≡◌, refl, sym, ◌∙◌, ap₂}
 use mathlib.Core.Bool.{Bool, true, false, ◌&&◌}
-use Rattle.exact.specs.Whole.Parity.{false_true}
+use Rattle.exact.proofs.Whole.Parity.{false_true}
 use Rattle.unitary.proofs.DOmegaUnitary.divisible.Goals as goal
 
 -- a false first part makes the whole false

@@ -3,10 +3,10 @@ use mathlib.Core.Path.{subst, ap, ◌∙◌}
 use Prim.Native.Nat.{◌^◌}
 use lib.Dec.{lit≤}
 use Rattle.exact.specs.Meaning.Number.{ints, mul_q, neg_q, omega^}
-use Rattle.exact.specs.Matrices.Sizes.{sized_le}
+use Rattle.exact.proofs.Matrices.Sizes.{sized_le}
 use Rattle.ring.specs.Meaning.{quad}
 use Rattle.view.specs.Meaning.Outcome.{Entry}
-use Rattle.view.specs.Size.{coefficients, small_neg, small_conj, small_power, z_size, w_size, at_most_60}
+use Rattle.view.proofs.Size.{coefficients, small_neg, small_conj, small_power, z_size, w_size, at_most_60}
 use Rattle.view.proofs.matrix.entries.Goals as goal
 
 pub conj-zc-requires : goal.conj-zc-requires

@@ -1,9 +1,9 @@
 -- `number::mul_by_omega_power` meets its contract. The invariant: after i turns y is the number times omega to the i. Assumes nothing.
 use Prim.Native.Nat.{◌^◌}
 use native.Mathlib.Omega.{arith}
-use Rattle.exact.specs.Matrices.Sizes.{sized_le}
+use Rattle.exact.proofs.Matrices.Sizes.{sized_le}
 use Rattle.ring.specs.Meaning.{quad}
-use Rattle.view.specs.Size.{coefficients, small_power}
+use Rattle.view.proofs.Size.{coefficients, small_power}
 use Rattle.view.proofs.Numbers.{no_turn, one_more, all_turns}
 use Rattle.view.proofs.number.mul_by_omega_power.Goals as goal
 

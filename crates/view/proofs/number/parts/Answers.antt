@@ -4,13 +4,14 @@ use Prim.Native.Nat.{ℕ, ◌≤◌, ◌^◌}
 use lib.IntN.{◌+ℤ◌, ◌-ℤ◌}
 use mir.Syntax.{w64}
 use Rattle.exact.specs.Meaning.Number.{Sized}
-use Rattle.exact.specs.Whole.Machine.{held, arg, ◌∔◌, ◌∸◌}
+use Rattle.exact.proofs.Whole.Machine.{held, arg, ◌∔◌, ◌∸◌}
 use Rattle.ring.specs.Meaning.{quad}
 use Rattle.ring.specs.Code.{fits₁, is₁}
 use Rattle.ring.specs.declared.ZOmega.{ZOmega}
 use Rattle.view.specs.Meaning.Surd.{over, real, imaginary}
 use Rattle.view.specs.Meaning.Near.{Shows}
-use Rattle.view.specs.Size.{size, Fit, coefficients, real_fit, imaginary_fit, at_most_60}
+use Rattle.view.specs.Size.{size, Fit}
+use Rattle.view.proofs.Size.{coefficients, real_fit, imaginary_fit, at_most_60}
 use Rattle.view.proofs.number.parts.Goals as goal
 
 -- the two pairs of numbers as they are handed over

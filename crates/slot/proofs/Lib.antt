@@ -1,0 +1,8 @@
+-- What letters give a slot's record, how that is told from the record alone, and what the two calls promise.
+pub mod Shown
+pub mod Letters
+pub mod Tests
+pub mod Standing
+pub mod Ways
+pub mod Unique
+pub mod Theorems

@@ -1,0 +1,167 @@
+-- The tests of a record, one by one: ranges, codes in front, nothing behind them. Assumes nothing.
+use Rattle.std.specs.Prelude.{◌≡◌, refl, Bool, true, false, ◌&&◌, List, [], ◌∷◌, ◌++◌, ℕ, zero, suc, ◌+◌, ◌*◌, ◌/◌, ◌≤◌, ◌<◌, eqb, ltb, length, take, get_or}
+use Rattle.std.proofs.Common.{sym, ◌∙◌, ap, subst, add-zero, add-one, arith, eqb-true, ltb-true, ltb-false, Fits as FitsIn, take-suc}
+use Rattle.std.proofs.lemmas.Bool.{false≢true, eqb-false}
+use Rattle.std.specs.Int.{w16}
+use Rattle.exact.specs.Meaning.Outcome.{Decides}
+use Rattle.slot.specs.Tests.{Ranges, Fronts, sum, Behind}
+
+-- ---- deciding
+pub refuted : {P : Type 0} → (P → ⊥) → Decides P false
+refuted f = record { yes = λ e. absurd (false≢true e); no = λ e. f }
+
+pub shown : {P : Type 0} → P → Decides P true
+shown p = record { yes = λ e. p; no = λ e h. false≢true (sym e) }
+
+-- both of two tests
+pub both_decide : {P Q R : Type 0} {b c r : Bool} → Decides P b → Decides Q c → r ≡ b && c → (P → Q → R) → (R → P × Q) → Decides R r
+both_decide {P} {Q} {R} {b} {c} {r} p q e to from = subst (Decides R) (sym e) (go b c p q)
+  where
+    go : (b c : Bool) → Decides P b → Decides Q c → Decides R (b && c)
+    go true true p q = shown (to (p.yes refl) (q.yes refl))
+    go true false p q = refuted (λ h. q.no refl (from h).1)
+    go false c p q = refuted (λ h. p.no refl (from h).0)
+
+pub less_decides : (m n : ℕ) → Decides (m < n) (ltb m n)
+less_decides m n = record { yes = ltb-true m n; no = λ e h. omega (arith, ltb-false m n e) }
+
+pub equal_decides : (m n : ℕ) → Decides (m ≡ n) (eqb m n)
+equal_decides m n = record { yes = eqb-true m n; no = eqb-false m n }
+
+module _ {rest : List ℕ} where
+  pub many : 4096 < get_or rest 0 0 → Decides (Ranges rest) false
+  many l = refuted (λ h. omega (arith, h.count_few))
+
+  pub a_out : 2 < get_or rest 2 0 → Decides (Ranges rest) false
+  a_out l = refuted (λ h. omega (arith, h.a_few))
+
+  pub b_out : 1 < get_or rest 3 0 → Decides (Ranges rest) false
+  b_out l = refuted (λ h. omega (arith, h.b_few))
+
+  pub c_out : 3 < get_or rest 4 0 → Decides (Ranges rest) false
+  c_out l = refuted (λ h. omega (arith, h.c_few))
+
+  pub d_tells : get_or rest 0 0 ≤ 4096 → get_or rest 2 0 ≤ 2 → get_or rest 3 0 ≤ 1 → get_or rest 4 0 ≤ 3 → Decides (Ranges rest) (ltb (get_or rest 5 0) 8)
+  d_tells k a b c =
+      record {
+        yes = λ e. record { count_few = k; a_few = omega arith; b_few = omega arith; c_few = omega arith; d_few = ltb-true (get_or rest 5 0) 8 e };
+        no = λ e h. omega (arith, ltb-false (get_or rest 5 0) 8 e, h.d_few);
+      }
+
+pub sum_append : (cs ds : List ℕ) → sum (cs ++ ds) ≡ sum cs + sum ds
+sum_append [] ds = omega arith
+sum_append (c ∷ cs) ds = omega (arith, sum_append cs ds)
+
+pub sum_next : (items : List ℕ) (i : ℕ) → i < length items → sum (take (suc i) items) ≡ sum (take i items) + get_or items i 0
+sum_next items i l =
+    ap sum (take-suc items i 0 l)
+    ∙ sum_append (take i items) (get_or items i 0 ∷ [])
+    ∙ ap (λ (n : ℕ). sum (take i items) + n) (add-zero (get_or items i 0))
+
+pub fronts_none : {items : List ℕ} {n : ℕ} → n ≡ 0 → Decides (Fronts items n) true
+fronts_none e = rw e (shown (record { first = λ l. absurd (omega arith); inner = λ i k l. absurd (omega arith) }))
+
+-- what the loop knows of the codes before i
+pub record Fronting (items : List ℕ) (count : ℕ) (right : Bool) (i : ℕ) : Type 0 where
+  pub low : 0 < i
+  pub high : i ≤ count
+  pub told : Decides (Fronts items i) right
+
+pub fronts_first : {items : List ℕ} {count : ℕ} {right : Bool} → (count ≡ 0 → ⊥) → right ≡ ltb 0 (get_or items 0 0) && ltb (get_or items 0 0) 4
+    → Fronting items count right 1
+fronts_first {items} f e =
+    record {
+      low = omega arith;
+      high = omega (arith, f);
+      told =
+          both_decide (less_decides 0 (get_or items 0 0)) (less_decides (get_or items 0 0) 4) e
+          (λ p q. record { first = λ k. (p, q); inner = λ i j k. absurd (omega arith) }) (λ h. h.first (omega arith));
+    }
+
+module _ {items : List ℕ} {count : ℕ} {right : Bool} {i : ℕ} (h : Fronting items count right i) where
+  pub fronts_more : {r : Bool} → i < count → r ≡ right && eqb (get_or items i 0 / 2) 1 → Fronting items count r (i + 1)
+  fronts_more k e =
+      record {
+        low = omega arith;
+        high = omega arith;
+        told = both_decide h.told (equal_decides (get_or items i 0 / 2) 1) e joined parted;
+      }
+    where
+      joined : Fronts items i → get_or items i 0 / 2 ≡ 1 → Fronts items (i + 1)
+      joined p q = record { first = λ z. p.first h.low; inner = λ j y z. at j y z (eqb j i) refl }
+        where
+          at : (j : ℕ) → 0 < j → j < i + 1 → (b : Bool) → eqb j i ≡ b → get_or items j 0 / 2 ≡ 1
+          at j y z true f = rw (eqb-true j i f) q
+          at j y z false f = p.inner j y (omega (arith, eqb-false j i f))
+
+      parted : Fronts items (i + 1) → Fronts items i × (get_or items i 0 / 2 ≡ 1)
+      parted p =
+          (record { first = λ z. p.first (omega arith); inner = λ j y z. p.inner j y (omega arith) }, p.inner i h.low (omega arith))
+
+  pub fronts_end : count ≤ i → Decides (Fronts items count) right
+  fronts_end l =
+      let e : i ≡ count = omega (arith, h.high) in
+      subst (λ (n : ℕ). Decides (Fronts items n) right) e h.told
+
+-- ---- the letters of right codes
+pub code_most : {items : List ℕ} {n : ℕ} → Fronts items n → (i : ℕ) → i < n → get_or items i 0 ≤ 3
+code_most h zero l = omega (arith, (h.first l).1)
+code_most h (suc i) l = omega (arith, h.inner (suc i) (omega arith) l)
+
+pub record Summing (items : List ℕ) (letters i : ℕ) : Type 0 where
+  pub sum_is : letters ≡ sum (take i items)
+  pub few : letters ≤ 3 * i
+
+pub sum_none : {items : List ℕ} → Summing items 0 0
+sum_none = record { sum_is = refl; few = omega arith }
+
+module _ {items : List ℕ} {count letters i : ℕ} (f : Fronts items count) (h : Summing items letters i) (l : i < count) where
+  pub code_fits : FitsIn w16 (get_or items i 0)
+  code_fits = omega (arith, code_most f i l)
+
+  module _ (c : count ≤ length items) where
+    pub sum_fits : length items ≤ 4096 → FitsIn w16 (letters + get_or items i 0)
+    sum_fits m = omega (arith, code_most f i l, h.few)
+
+    pub sum_more : Summing items (letters + get_or items i 0) (i + 1)
+    sum_more =
+        record {
+          sum_is =
+              omega (arith, h.sum_is, ap (λ (n : ℕ). sum (take n items)) (add-one i), sum_next items i (omega arith));
+          few = omega (arith, code_most f i l, h.few);
+        }
+
+pub sum_end : {items : List ℕ} {count letters i : ℕ} → Summing items letters i → i ≤ count → count ≤ i → letters ≡ sum (take count items)
+sum_end {items} {count} {letters} {i} h l m = let e : i ≡ count = omega arith in h.sum_is ∙ ap (λ (n : ℕ). sum (take n items)) e
+
+-- what the loop knows of the places before i
+pub record Emptying (items : List ℕ) (from : ℕ) (empty : Bool) (i : ℕ) : Type 0 where
+  pub low : from ≤ i
+  pub high : i ≤ length items
+  pub told : Decides (Behind items from i) empty
+
+pub behind_start : {items : List ℕ} {n : ℕ} → n ≤ length items → Emptying items n true n
+behind_start l = record { low = omega arith; high = l; told = shown (record { empty = λ i k l. absurd (omega arith) }) }
+
+module _ {items : List ℕ} {n i : ℕ} {b : Bool} (h : Emptying items n b i) where
+  pub behind_more : {r : Bool} → i < length items → r ≡ b && eqb (get_or items i 0) 0 → Emptying items n r (i + 1)
+  behind_more l e =
+      record {
+        low = omega (arith, h.low);
+        high = omega arith;
+        told =
+            both_decide h.told (equal_decides (get_or items i 0) 0) e joined
+            (λ p. (record { empty = λ j y z. p.empty j y (omega arith) }, p.empty i h.low (omega arith)));
+      }
+    where
+      joined : Behind items n i → get_or items i 0 ≡ 0 → Behind items n (i + 1)
+      joined p q = record { empty = λ j y z. at j y z (eqb j i) refl }
+        where
+          at : (j : ℕ) → n ≤ j → j < i + 1 → (b : Bool) → eqb j i ≡ b → get_or items j 0 ≡ 0
+          at j y z true f = rw (eqb-true j i f) q
+          at j y z false f = p.empty j y (omega (arith, eqb-false j i f))
+
+  pub behind_end : length items ≤ i → Decides (Behind items n (length items)) b
+  behind_end l =
+      let e : i ≡ length items = omega (arith, h.high) in
+      subst (λ (m : ℕ). Decides (Behind items n m) b) e h.told
