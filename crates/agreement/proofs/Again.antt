@@ -23,7 +23,7 @@ use Rattle.dunrossel.specs.Meaning.Exports.{Writes, Synthesises}
 use Rattle.agreement.specs.Meaning.Agree.{handed_on}
 use Rattle.agreement.specs.Meaning.Exports.{Wrote, wrote, seen}
 use Rattle.agreement.proofs.Calls.{of_normalised, of_synthesised}
-use Rattle.agreement.proofs.Agree.{word_there}
+use Rattle.agreement.proofs.AgreeLaws.{word_there}
 
 -- what comes out of a job comes out of its export: refusal 0; place 0, the length and the T letters; the bytes, and those beyond as they were
 exports_come_out : (Answer : List Letter → List Letter → Type 0) (u v : List Letter) → ComesOut Answer u v → (old : List ℕ)

@@ -5,7 +5,7 @@ use Rattle.std.proofs.Common.{sym, ◌∙◌, ap}
 use Rattle.exact.specs.Meaning.Word.{Letter, bytes}
 use Rattle.exact.specs.Meaning.Limits.{longest, normal_enough, phase_free_enough, no_refusal, room_refusal}
 use Rattle.normal_form.specs.Meaning.{Normalises, DropsPhase}
-use Rattle.normal_form.specs.Enough.{normalise_has_room, normalise_taken, phase_free_has_room, phase_free_taken}
+use Rattle.normal_form.proofs.Enough.{normalise_has_room, normalise_taken, phase_free_has_room, phase_free_taken}
 use Rattle.dunrossel.specs.Meaning.Exports.{Writes}
 use Rattle.agreement.specs.Meaning.Exports.{Wrote}
 

@@ -2,7 +2,7 @@
 pub mod Jobs
 pub mod Calls
 pub mod Demand3
-pub mod Agree
+pub mod AgreeLaws
 pub mod Ways
 pub mod Unique
 pub mod Identity

@@ -1,7 +1,7 @@
 -- A beginning that is longer than any right record is answered as the whole is: both are refused 8. So a program may stop reading there,
 -- and what it answers to the bytes that it has is what it would answer to all of its input. Assumes nothing.
-use Rattle.std.specs.Prelude.{◌≡◌, Bool, true, false, not, List, ℕ, ◌≤◌, ◌<◌, min, T, ltb, length, take}
-use Rattle.std.proofs.Common.{sym, subst, arith, ltb→lt, nltb→le, length-take, take_all, take-take}
+use Rattle.std.specs.Prelude.{◌≡◌, List, ℕ, ◌≤◌, ◌<◌, min, length, take}
+use Rattle.std.proofs.Common.{sym, arith, length-take, take-take}
 use Rattle.exact.specs.Meaning.Outcome.{Rung}
 use Rattle.exact.specs.Meaning.Record.{Numbers, RightRecord}
 use Rattle.record.specs.Longest.{longest_record, right_short}
@@ -36,22 +36,6 @@ module _ (s : List ℕ) (n : ℕ) (long : longest_record < n) (there : n ≤ len
 
   pub whole_beginning : BenchOutcome s old size new → BenchOutcome (take n s) old size new
   whole_beginning = both_refused s (take n s) (omega arith) beginning_long old size new
-
--- ---- the answer to the bytes that are there is the answer to the whole
-module _ (buffer : List ℕ) (size : ℕ) (old : List ℕ) (bytes : ℕ) (new : List ℕ) where
-  pub answered : longest_record < length buffer → size ≤ length buffer → BenchOutcome (take size buffer) old bytes new
-      → Answers buffer size old bytes new
-  answered long there o = record { whole = λ input b. by input b (ltb (length buffer) (length input)) (ltb→lt _ _) (nltb→le _ _) }
-    where
-      first : (input : List ℕ) → Begins input buffer size → BenchOutcome (take size input) old bytes new
-      first input b = subst (λ (s : List ℕ). BenchOutcome s old bytes new) b.is o
-
-      by : (input : List ℕ) → Begins input buffer size → (filled : Bool) → (T filled → length buffer < length input)
-          → (T (not filled) → length input ≤ length buffer)
-          → BenchOutcome input old bytes new
-      by input b true f g = beginning_whole input size (omega (arith, b.ends, f tt)) (omega (arith, b.ends, f tt)) old bytes new (first input b)
-      by input b false f g =
-          subst (λ (s : List ℕ). BenchOutcome s old bytes new) (take_all size input (omega (arith, b.ends, g tt))) (first input b)
 
 -- the bytes that are there may be all of the input, so that some input always begins so
 pub begins_itself : (buffer : List ℕ) (size : ℕ) → size ≤ length buffer → Begins (take size buffer) buffer size

@@ -1,5 +1,5 @@
 -- `agreement::agree` meets its contract: the two ways, and the comparison of what they wrote.
-use Rattle.agreement.proofs.Agree.{first_there, second_there}
+use Rattle.agreement.proofs.AgreeLaws.{first_there, second_there}
 use Rattle.agreement.proofs.agree.Goals as goal
 
 pub alike-yes-requires : goal.alike-yes-requires

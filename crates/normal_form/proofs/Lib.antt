@@ -1,0 +1,2 @@
+-- Proofs that nothing of specs/ rests on.
+pub mod Enough
