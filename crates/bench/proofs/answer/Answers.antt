@@ -1,6 +1,6 @@
 -- The answer to the bytes that are there is the answer to the whole input. Assumes nothing.
 use Rattle.std.proofs.Common.{rules}
-use Rattle.dunrossel.specs.Beginning.{answered}
+use Rattle.dunrossel.proofs.Beginning.{answered}
 use Rattle.dunrossel.specs.Record.{bench_fits, bench_counted}
 use Rattle.bench.proofs.answer.Goals as goal
 
