@@ -1,12 +1,15 @@
 // The bench program: a record on standard input, its answer on standard output.
 #![tactic(auto)]
 
-ghost use Rattle.std.specs.Prelude.{◌≤◌, ◌<◌, length};
-ghost use Rattle.io.specs.Counts.{IsPrefixLen};
+ghost use Rattle.std.specs.Prelude.{◌≤◌, ◌<◌, length, IfOk, IfSome};
+ghost use Rattle.input.specs.Counts.{IsPrefixLen};
 ghost use Rattle.record.specs.Longest.{longest_record};
 ghost use Rattle.dunrossel.specs.Beginning.{Answers};
+ghost use Rattle.dunrossel.specs.Meaning.Bench.{BenchOutcome};
 
-use libc::{STDERR_FILENO, STDIN_FILENO, STDOUT_FILENO};
+use std::io;
+use std::io::Read;
+use std::process::ExitCode;
 
 // The answer to a whole input, of which the buffer has the first `size` bytes: all, or as many as it holds.
 fn answer(buffer: &[u8], size: usize, out: &mut [u8; 512]) -> usize
@@ -18,12 +21,22 @@ fn answer(buffer: &[u8], size: usize, out: &mut [u8; 512]) -> usize
     dunrossel::dunrossel_bench(&buffer[..size], out)
 }
 
-fn main() {
+// The answer to all that the stream has left, of which no more is read than shows that it is too long for a record.
+fn answer_stream<R: Read>(from: &mut R, out: &mut [u8; 512]) -> io::Result<usize>
+    ensures answers { IfOk result (λ bytes. IfSome (R.remaining from.old) (λ input. BenchOutcome input out.old bytes out.new)) }
+    ensures prefix_len { IfOk result (λ bytes. IsPrefixLen bytes out.new) }
+{
     let mut buffer = record::input_buffer();
-    let size = io::read_full(STDIN_FILENO, &mut buffer);
+    let size = input::read_full(from, &mut buffer)?;
+    Ok(answer(&buffer, size, out))
+}
+
+fn main(rt: HostRuntime) -> io::Result<ExitCode> {
     let mut out = [0u8; 512];
-    let bytes = answer(&buffer, size, &mut out);
-    if !io::write_all(STDOUT_FILENO, &out[..bytes]) {
-        io::write_all(STDERR_FILENO, b"bench: the answer could not be written\n");
+    let bytes = answer_stream(&mut rt.stdin(), &mut out)?;
+    if rt.write_all(&out[..bytes]).is_err() {
+        eprintln!(rt; "bench: the answer could not be written")?;
+        return Ok(ExitCode::FAILURE);
     }
+    Ok(ExitCode::SUCCESS)
 }

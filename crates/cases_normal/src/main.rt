@@ -3,195 +3,201 @@
 
 use normal_form::Written;
 use shown::{number, text};
+use std::io;
+use std::io::Write;
 
-fn handed(label: &[u8], r: Written) {
-    text(label);
-    text(b": refusal=");
-    number(r.refusal as u64);
-    text(b" place=");
-    number(r.place as u64);
-    text(b" bytes=");
-    number(r.bytes as u64);
-    text(b" t=");
-    number(r.tees as u64);
+fn handed<W: Write>(out: &mut W, label: &[u8], r: Written) -> io::Result<()> {
+    text(out, label)?;
+    text(out, b": refusal=")?;
+    number(out, r.refusal as u64)?;
+    text(out, b" place=")?;
+    number(out, r.place as u64)?;
+    text(out, b" bytes=")?;
+    number(out, r.bytes as u64)?;
+    text(out, b" t=")?;
+    number(out, r.tees as u64)
 }
 
 // The whole buffer is shown, so that a byte that should not have been written is seen.
-fn job3_in(word: &[u8], buf: &mut [u8], room: usize) {
+fn job3_in<W: Write>(out: &mut W, word: &[u8], buf: &mut [u8], room: usize) -> io::Result<()> {
     if room <= buf.len() {
         let r = normal_form::normalise(word, &mut buf[0..room]);
-        handed(word, r);
-        text(b" ");
-        text(buf);
-        text(b"\n");
+        handed(out, word, r)?;
+        text(out, b" ")?;
+        text(out, buf)?;
+        text(out, b"\n")?;
     }
+    Ok(())
 }
 
-fn job5_in(word: &[u8], buf: &mut [u8], room: usize) {
+fn job5_in<W: Write>(out: &mut W, word: &[u8], buf: &mut [u8], room: usize) -> io::Result<()> {
     if room <= buf.len() {
         let r = normal_form::phase_free(word, &mut buf[0..room]);
-        handed(word, r);
-        text(b" ");
-        text(buf);
-        text(b"\n");
+        handed(out, word, r)?;
+        text(out, b" ")?;
+        text(out, buf)?;
+        text(out, b"\n")?;
     }
+    Ok(())
 }
 
-fn job3(word: &[u8], room: usize) {
+fn job3<W: Write>(out: &mut W, word: &[u8], room: usize) -> io::Result<()> {
     let mut buf = [b'.'; 16];
-    job3_in(word, &mut buf, room);
+    job3_in(out, word, &mut buf, room)
 }
 
-fn job5(word: &[u8], room: usize) {
+fn job5<W: Write>(out: &mut W, word: &[u8], room: usize) -> io::Result<()> {
     let mut buf = [b'.'; 16];
-    job5_in(word, &mut buf, room);
+    job5_in(out, word, &mut buf, room)
 }
 
-fn document() {
-    job3(b"", 16);
-    job3(b"T", 16);
-    job3(b"TT", 16);
-    job3(b"TTTT", 16);
-    job3(b"HH", 16);
-    job3(b"HTT", 16);
-    job3(b"SHTT", 16);
-    job3(b"HSH", 16);
-    job3(b"XT", 16);
-    job3(b"WT", 16);
-    job3(b"HTHT", 16);
+fn document<W: Write>(out: &mut W) -> io::Result<()> {
+    job3(out, b"", 16)?;
+    job3(out, b"T", 16)?;
+    job3(out, b"TT", 16)?;
+    job3(out, b"TTTT", 16)?;
+    job3(out, b"HH", 16)?;
+    job3(out, b"HTT", 16)?;
+    job3(out, b"SHTT", 16)?;
+    job3(out, b"HSH", 16)?;
+    job3(out, b"XT", 16)?;
+    job3(out, b"WT", 16)?;
+    job3(out, b"HTHT", 16)
 }
 
-fn phase_free_words() {
-    job5(b"", 1);
-    job5(b"", 0);
-    job5(b"T", 16);
-    job5(b"T", 2);
-    job5(b"T", 1);
-    job5(b"TW", 16);
-    job5(b"TW", 2);
-    job5(b"TW", 1);
-    job5(b"WT", 2);
-    job5(b"WT", 1);
-    job5(b"W", 16);
-    job5(b"W", 1);
-    job5(b"W", 0);
-    job5(b"HW", 1);
-    job5(b"HW", 0);
-    job5(b"XSW", 2);
-    job5(b"XSW", 1);
-    job5(b"HSH", 16);
-    job5(b"XT", 3);
-    job5(b"XT", 2);
-    job5(b"WWWWWWWW", 1);
-    job5(b"WWWWWWWW", 0);
+fn phase_free_words<W: Write>(out: &mut W) -> io::Result<()> {
+    job5(out, b"", 1)?;
+    job5(out, b"", 0)?;
+    job5(out, b"T", 16)?;
+    job5(out, b"T", 2)?;
+    job5(out, b"T", 1)?;
+    job5(out, b"TW", 16)?;
+    job5(out, b"TW", 2)?;
+    job5(out, b"TW", 1)?;
+    job5(out, b"WT", 2)?;
+    job5(out, b"WT", 1)?;
+    job5(out, b"W", 16)?;
+    job5(out, b"W", 1)?;
+    job5(out, b"W", 0)?;
+    job5(out, b"HW", 1)?;
+    job5(out, b"HW", 0)?;
+    job5(out, b"XSW", 2)?;
+    job5(out, b"XSW", 1)?;
+    job5(out, b"HSH", 16)?;
+    job5(out, b"XT", 3)?;
+    job5(out, b"XT", 2)?;
+    job5(out, b"WWWWWWWW", 1)?;
+    job5(out, b"WWWWWWWW", 0)
 }
 
-fn identities() {
-    job3(b"I", 16);
-    job3(b"I", 1);
-    job3(b"I", 0);
-    job3(b"II", 16);
-    job3(b"IT", 16);
-    job3(b"ITI", 16);
-    job3(b"HIH", 16);
-    job3(b"SHTIT", 16);
-    job3(b"HTI", 16);
-    job3(b"HTIHT", 16);
-    job3(b"IXTHS", 16);
-    job3(b"XITHS", 16);
-    job3(b"XTIHS", 16);
-    job3(b"XTHIS", 16);
-    job3(b"XTHSI", 16);
-    job5(b"I", 16);
-    job5(b"I", 0);
-    job5(b"TIW", 16);
-    job5(b"WI", 16);
-    job5(b"XIT", 3);
-    job5(b"XIT", 2);
+fn identities<W: Write>(out: &mut W) -> io::Result<()> {
+    job3(out, b"I", 16)?;
+    job3(out, b"I", 1)?;
+    job3(out, b"I", 0)?;
+    job3(out, b"II", 16)?;
+    job3(out, b"IT", 16)?;
+    job3(out, b"ITI", 16)?;
+    job3(out, b"HIH", 16)?;
+    job3(out, b"SHTIT", 16)?;
+    job3(out, b"HTI", 16)?;
+    job3(out, b"HTIHT", 16)?;
+    job3(out, b"IXTHS", 16)?;
+    job3(out, b"XITHS", 16)?;
+    job3(out, b"XTIHS", 16)?;
+    job3(out, b"XTHIS", 16)?;
+    job3(out, b"XTHSI", 16)?;
+    job5(out, b"I", 16)?;
+    job5(out, b"I", 0)?;
+    job5(out, b"TIW", 16)?;
+    job5(out, b"WI", 16)?;
+    job5(out, b"XIT", 3)?;
+    job5(out, b"XIT", 2)
 }
 
 // Normal words, which are given back as they are, and so are the words of job 5, which have no W.
-fn given_back() {
-    job3(b"TI", 2);
-    job3(b"TI", 1);
-    job3(b"TXSWWWWWWW", 10);
-    job3(b"TXSWWWWWWW", 9);
-    job3(b"THTSHTI", 7);
-    job3(b"SHTSHXSSSW", 10);
-    job5(b"SHTSHXSSSW", 9);
-    job3(b"SHTSHXSSS", 9);
-    job5(b"SHTSHXSSS", 9);
-    job5(b"TI", 2);
-    job5(b"TI", 1);
+fn given_back<W: Write>(out: &mut W) -> io::Result<()> {
+    job3(out, b"TI", 2)?;
+    job3(out, b"TI", 1)?;
+    job3(out, b"TXSWWWWWWW", 10)?;
+    job3(out, b"TXSWWWWWWW", 9)?;
+    job3(out, b"THTSHTI", 7)?;
+    job3(out, b"SHTSHXSSSW", 10)?;
+    job5(out, b"SHTSHXSSSW", 9)?;
+    job3(out, b"SHTSHXSSS", 9)?;
+    job5(out, b"SHTSHXSSS", 9)?;
+    job5(out, b"TI", 2)?;
+    job5(out, b"TI", 1)
 }
 
-fn places() {
-    job3(b"hHT", 16);
-    job3(b"i", 16);
-    job3(b"iI", 16);
-    job3(b"Ii", 16);
-    job3(b"HTxyz", 0);
-    job3(b"HT?IHT", 16);
-    job3(b"HTI?HT", 16);
-    job5(b"HTI?HT", 0);
+fn places<W: Write>(out: &mut W) -> io::Result<()> {
+    job3(out, b"hHT", 16)?;
+    job3(out, b"i", 16)?;
+    job3(out, b"iI", 16)?;
+    job3(out, b"Ii", 16)?;
+    job3(out, b"HTxyz", 0)?;
+    job3(out, b"HT?IHT", 16)?;
+    job3(out, b"HTI?HT", 16)?;
+    job5(out, b"HTI?HT", 0)
 }
 
-fn rooms() {
-    job3(b"T", 2);
-    job3(b"T", 1);
-    job3(b"XT", 11);
-    job3(b"XT", 10);
-    job3(b"XT", 9);
-    job3(b"XT", 0);
-    job3(b"", 0);
-    job3(b"", 1);
+fn rooms<W: Write>(out: &mut W) -> io::Result<()> {
+    job3(out, b"T", 2)?;
+    job3(out, b"T", 1)?;
+    job3(out, b"XT", 11)?;
+    job3(out, b"XT", 10)?;
+    job3(out, b"XT", 9)?;
+    job3(out, b"XT", 0)?;
+    job3(out, b"", 0)?;
+    job3(out, b"", 1)
 }
 
 // A byte that is a word by itself.
-fn alone(b: u8) {
+fn alone<W: Write>(out: &mut W, b: u8) -> io::Result<()> {
     let word = [b];
     let mut buf = [b'.'; 16];
     let r = normal_form::normalise(&word, &mut buf);
     if r.refusal == 0 {
-        text(b" ");
-        number(b as u64);
+        text(out, b" ")?;
+        number(out, b as u64)?;
     }
+    Ok(())
 }
 
-fn all_bytes() {
+fn all_bytes<W: Write>(out: &mut W) -> io::Result<()> {
     let mut b: u8 = 0;
     while b < 255 {
-        alone(b);
+        alone(out, b)?;
         b += 1;
     }
-    alone(b);
+    alone(out, b)
 }
 
-fn alphabet() {
-    text(b"taken alone:");
-    all_bytes();
-    text(b"\n");
+fn alphabet<W: Write>(out: &mut W) -> io::Result<()> {
+    text(out, b"taken alone:")?;
+    all_bytes(out)?;
+    text(out, b"\n")
 }
 
-fn ends(buf: &[u8]) {
+fn ends<W: Write>(out: &mut W, buf: &[u8]) -> io::Result<()> {
     if buf.len() == 4100 {
-        text(&buf[0..4]);
-        text(b"..");
-        text(&buf[4090..4100]);
+        text(out, &buf[0..4])?;
+        text(out, b"..")?;
+        text(out, &buf[4090..4100])?;
     }
+    Ok(())
 }
 
-fn long_in(label: &[u8], word: &[u8], buf: &mut [u8]) {
+fn long_in<W: Write>(out: &mut W, label: &[u8], word: &[u8], buf: &mut [u8]) -> io::Result<()> {
     let r = normal_form::normalise(word, buf);
-    handed(label, r);
-    text(b" ");
-    ends(buf);
-    text(b"\n");
+    handed(out, label, r)?;
+    text(out, b" ")?;
+    ends(out, buf)?;
+    text(out, b"\n")
 }
 
-fn long_word(label: &[u8], word: &[u8]) {
+fn long_word<W: Write>(out: &mut W, label: &[u8], word: &[u8]) -> io::Result<()> {
     let mut buf = [b'.'; 4100];
-    long_in(label, word, &mut buf);
+    long_in(out, label, word, &mut buf)
 }
 
 fn by_turns(i: usize) -> u8 {
@@ -224,67 +230,70 @@ fn fill_up_and_down(word: &mut [u8; 4090]) {
     }
 }
 
-fn syllables(word: &[u8]) {
+fn syllables<W: Write>(out: &mut W, word: &[u8]) -> io::Result<()> {
     if word.len() == 4097 {
-        long_word(b"2048 syllables", &word[0..4095]);
-        long_word(b"2048 syllables and H", &word[0..4096]);
-        long_word(b"4097 letters", word);
+        long_word(out, b"2048 syllables", &word[0..4095])?;
+        long_word(out, b"2048 syllables and H", &word[0..4096])?;
+        long_word(out, b"4097 letters", word)?;
     }
+    Ok(())
 }
 
-fn syllables_of(word: &[u8; 4097]) {
-    syllables(word);
+fn syllables_of<W: Write>(out: &mut W, word: &[u8; 4097]) -> io::Result<()> {
+    syllables(out, word)
 }
 
-fn most_syllables() {
+fn most_syllables<W: Write>(out: &mut W) -> io::Result<()> {
     let mut word = [b'H'; 4097];
     fill_syllables(&mut word);
-    syllables_of(&word);
+    syllables_of(out, &word)
 }
 
-fn returned(word: &[u8]) {
+fn returned<W: Write>(out: &mut W, word: &[u8]) -> io::Result<()> {
     if word.len() == 4090 {
-        long_word(b"up", &word[0..818]);
-        long_word(b"up and down", word);
+        long_word(out, b"up", &word[0..818])?;
+        long_word(out, b"up and down", word)?;
     }
+    Ok(())
 }
 
-fn returned_of(word: &[u8; 4090]) {
-    returned(word);
+fn returned_of<W: Write>(out: &mut W, word: &[u8; 4090]) -> io::Result<()> {
+    returned(out, word)
 }
 
-fn up_and_back() {
+fn up_and_back<W: Write>(out: &mut W) -> io::Result<()> {
     let mut word = [b'H'; 4090];
     fill_up_and_down(&mut word);
-    returned_of(&word);
+    returned_of(out, &word)
 }
 
-fn only_tees() {
+fn only_tees<W: Write>(out: &mut W) -> io::Result<()> {
     let word = [b'T'; 4096];
-    long_word(b"4096 T", &word);
+    long_word(out, b"4096 T", &word)
 }
 
-fn only_identities() {
+fn only_identities<W: Write>(out: &mut W) -> io::Result<()> {
     let word = [b'I'; 4096];
-    long_word(b"4096 I", &word);
+    long_word(out, b"4096 I", &word)?;
     let word = [b'I'; 4097];
-    long_word(b"4097 I", &word);
+    long_word(out, b"4097 I", &word)
 }
 
-fn long_words() {
-    most_syllables();
-    up_and_back();
-    only_tees();
-    only_identities();
+fn long_words<W: Write>(out: &mut W) -> io::Result<()> {
+    most_syllables(out)?;
+    up_and_back(out)?;
+    only_tees(out)?;
+    only_identities(out)
 }
 
-fn main() {
-    document();
-    phase_free_words();
-    identities();
-    given_back();
-    places();
-    rooms();
-    alphabet();
-    long_words();
+fn main(rt: HostRuntime) -> io::Result<()> {
+    let mut out = rt.stdout();
+    document(&mut out)?;
+    phase_free_words(&mut out)?;
+    identities(&mut out)?;
+    given_back(&mut out)?;
+    places(&mut out)?;
+    rooms(&mut out)?;
+    alphabet(&mut out)?;
+    long_words(&mut out)
 }

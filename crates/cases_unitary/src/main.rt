@@ -3,54 +3,63 @@
 
 use ring::ZOmega;
 use shown::{number, signed, text};
+use std::io;
+use std::io::Write;
 use unitary::DOmegaUnitary;
 
-fn coefficients(x: ZOmega) {
+fn coefficients<W: Write>(out: &mut W, x: ZOmega) -> io::Result<()> {
     let a = x.a;
     let b = x.b;
     let c = x.c;
     let d = x.d;
-    signed(a);
-    text(b",");
-    signed(b);
-    text(b",");
-    signed(c);
-    text(b",");
-    signed(d);
+    signed(out, a)?;
+    text(out, b",")?;
+    signed(out, b)?;
+    text(out, b",")?;
+    signed(out, c)?;
+    text(out, b",")?;
+    signed(out, d)
 }
 
-fn matrix(t: DOmegaUnitary) {
+fn matrix<W: Write>(out: &mut W, t: DOmegaUnitary) -> io::Result<()> {
     let z = t.z;
     let w = t.w;
-    text(b" k=");
-    number(t.k as u64);
-    text(b" n=");
-    number(t.n as u64);
-    text(b" z=");
-    coefficients(z);
-    text(b" w=");
-    coefficients(w);
-    text(b"\n");
+    text(out, b" k=")?;
+    number(out, t.k as u64)?;
+    text(out, b" n=")?;
+    number(out, t.n as u64)?;
+    text(out, b" z=")?;
+    coefficients(out, z)?;
+    text(out, b" w=")?;
+    coefficients(out, w)?;
+    text(out, b"\n")
 }
 
-fn reduced(label: &[u8], k: i64, n: u8, z: ZOmega, w: ZOmega) {
+fn reduced<W: Write>(
+    out: &mut W,
+    label: &[u8],
+    k: i64,
+    n: u8,
+    z: ZOmega,
+    w: ZOmega,
+) -> io::Result<()> {
     let r = unitary::reduce(k, n, z, w);
     let m = r.matrix;
-    text(label);
-    text(b": refusal=");
-    number(r.refusal as u64);
-    matrix(m);
+    text(out, label)?;
+    text(out, b": refusal=")?;
+    number(out, r.refusal as u64)?;
+    matrix(out, m)
 }
 
-fn of_word(label: &[u8], word: &[u8]) {
+fn of_word<W: Write>(out: &mut W, label: &[u8], word: &[u8]) -> io::Result<()> {
     let r = unitary::from_gates(word);
     let m = r.matrix;
-    text(label);
-    text(b": refusal=");
-    number(r.refusal as u64);
-    text(b" place=");
-    number(r.place as u64);
-    matrix(m);
+    text(out, label)?;
+    text(out, b": refusal=")?;
+    number(out, r.refusal as u64)?;
+    text(out, b" place=")?;
+    number(out, r.place as u64)?;
+    matrix(out, m)
 }
 
 // H and T by turns.
@@ -66,7 +75,7 @@ fn fill_ht(buf: &mut [u8; 244]) {
     }
 }
 
-fn triples() {
+fn triples<W: Write>(out: &mut W) -> io::Result<()> {
     let zero = ZOmega {
         a: 0,
         b: 0,
@@ -121,59 +130,61 @@ fn triples() {
         c: 0,
         d: 0,
     };
-    reduced(b"identity", 0, 0, one, zero);
-    reduced(b"k=60", 60, 0, top, zero);
-    reduced(b"k=60, n=255", 60, 255, low, zero);
-    reduced(b"k=61", 61, 0, top, zero);
-    reduced(b"k=-1", -1, 0, one, zero);
-    reduced(b"k least", -9223372036854775807, 0, wide, wide);
-    reduced(b"2^30+1", 60, 0, over, zero);
-    reduced(b"-2^30-1", 60, 0, zero, under);
-    reduced(b"widest", 60, 0, zero, wide);
-    reduced(b"only the squares fit", 1, 0, crossed, zero);
-    reduced(b"z=w=1, k=0", 0, 0, one, one);
-    reduced(b"z=w=1, k=1", 1, 4, one, one);
-    reduced(b"identity at k=1", 1, 0, root, zero);
-    reduced(b"z=0", 0, 9, zero, one);
+    reduced(out, b"identity", 0, 0, one, zero)?;
+    reduced(out, b"k=60", 60, 0, top, zero)?;
+    reduced(out, b"k=60, n=255", 60, 255, low, zero)?;
+    reduced(out, b"k=61", 61, 0, top, zero)?;
+    reduced(out, b"k=-1", -1, 0, one, zero)?;
+    reduced(out, b"k least", -9223372036854775807, 0, wide, wide)?;
+    reduced(out, b"2^30+1", 60, 0, over, zero)?;
+    reduced(out, b"-2^30-1", 60, 0, zero, under)?;
+    reduced(out, b"widest", 60, 0, zero, wide)?;
+    reduced(out, b"only the squares fit", 1, 0, crossed, zero)?;
+    reduced(out, b"z=w=1, k=0", 0, 0, one, one)?;
+    reduced(out, b"z=w=1, k=1", 1, 4, one, one)?;
+    reduced(out, b"identity at k=1", 1, 0, root, zero)?;
+    reduced(out, b"z=0", 0, 9, zero, one)
 }
 
-fn words() {
-    of_word(b"empty", b"");
-    of_word(b"I", b"I");
-    of_word(b"IHSXWT", b"IHSXWT");
-    of_word(b"TH", b"TH");
-    of_word(b"HT", b"HT");
-    of_word(b"bad byte first", b"hHT");
-    of_word(b"bad byte last", b"HTZ");
-    of_word(b"bad bytes", b"HTxyz");
+fn words<W: Write>(out: &mut W) -> io::Result<()> {
+    of_word(out, b"empty", b"")?;
+    of_word(out, b"I", b"I")?;
+    of_word(out, b"IHSXWT", b"IHSXWT")?;
+    of_word(out, b"TH", b"TH")?;
+    of_word(out, b"HT", b"HT")?;
+    of_word(out, b"bad byte first", b"hHT")?;
+    of_word(out, b"bad byte last", b"HTZ")?;
+    of_word(out, b"bad bytes", b"HTxyz")?;
     let mut long = [b'T'; 4097];
-    of_word(b"4096 letters", &long[..4096]);
-    of_word(b"4097 letters", &long);
+    of_word(out, b"4096 letters", &long[..4096])?;
+    of_word(out, b"4097 letters", &long)?;
     long[4096] = b'?';
-    of_word(b"4097 letters, a bad byte", &long);
+    of_word(out, b"4097 letters, a bad byte", &long)
 }
 
-fn first(label: &[u8], word: &[u8], n: usize) {
+fn first<W: Write>(out: &mut W, label: &[u8], word: &[u8], n: usize) -> io::Result<()> {
     if n <= word.len() {
-        of_word(label, &word[..n]);
+        of_word(out, label, &word[..n])?;
     }
+    Ok(())
 }
 
-fn of_powers(ht: &[u8; 244]) {
-    first(b"HT 60 times", ht, 120);
-    first(b"HT 119 times", ht, 238);
-    first(b"HT 120 times", ht, 240);
-    first(b"HT 122 times", ht, 244);
+fn of_powers<W: Write>(out: &mut W, ht: &[u8; 244]) -> io::Result<()> {
+    first(out, b"HT 60 times", ht, 120)?;
+    first(out, b"HT 119 times", ht, 238)?;
+    first(out, b"HT 120 times", ht, 240)?;
+    first(out, b"HT 122 times", ht, 244)
 }
 
-fn powers() {
+fn powers<W: Write>(out: &mut W) -> io::Result<()> {
     let mut ht = [b'I'; 244];
     fill_ht(&mut ht);
-    of_powers(&ht);
+    of_powers(out, &ht)
 }
 
-fn main() {
-    triples();
-    words();
-    powers();
+fn main(rt: HostRuntime) -> io::Result<()> {
+    let mut out = rt.stdout();
+    triples(&mut out)?;
+    words(&mut out)?;
+    powers(&mut out)
 }

@@ -5,34 +5,43 @@ ghost use Rattle.cases_view.specs.Finite.{Finite};
 
 use ring::ZOmega;
 use shown::{number, text};
+use std::io;
+use std::io::Write;
 use view::matrix::View;
 
-fn line(bits: u64) {
-    io::print_hex(1, bits, 16);
-    text(b"\n");
+fn line<W: Write>(out: &mut W, bits: u64) -> io::Result<()> {
+    write!(out, "{bits:016x}")?;
+    text(out, b"\n")
 }
 
-fn lines(v: View)
+fn lines<W: Write>(out: &mut W, v: View) -> io::Result<()>
     requires { Finite v }
 {
-    line(f64::to_bits(v.re00));
-    line(f64::to_bits(v.im00));
-    line(f64::to_bits(v.re01));
-    line(f64::to_bits(v.im01));
-    line(f64::to_bits(v.re10));
-    line(f64::to_bits(v.im10));
-    line(f64::to_bits(v.re11));
-    line(f64::to_bits(v.im11));
+    line(out, f64::to_bits(v.re00))?;
+    line(out, f64::to_bits(v.im00))?;
+    line(out, f64::to_bits(v.re01))?;
+    line(out, f64::to_bits(v.im01))?;
+    line(out, f64::to_bits(v.re10))?;
+    line(out, f64::to_bits(v.im10))?;
+    line(out, f64::to_bits(v.re11))?;
+    line(out, f64::to_bits(v.im11))
 }
 
-fn case(label: &[u8], k: i64, n: u8, z: ZOmega, w: ZOmega) {
+fn case<W: Write>(
+    out: &mut W,
+    label: &[u8],
+    k: i64,
+    n: u8,
+    z: ZOmega,
+    w: ZOmega,
+) -> io::Result<()> {
     let o = view::view(k, n, z, w);
     let v = o.view;
-    text(label);
-    text(b": refusal=");
-    number(o.refusal as u64);
-    text(b"\n");
-    lines(v);
+    text(out, label)?;
+    text(out, b": refusal=")?;
+    number(out, o.refusal as u64)?;
+    text(out, b"\n")?;
+    lines(out, v)
 }
 
 fn number_of(a: i64, b: i64, c: i64, d: i64) -> ZOmega {
@@ -44,33 +53,46 @@ fn number_of(a: i64, b: i64, c: i64, d: i64) -> ZOmega {
     }
 }
 
-fn main() {
+fn views<W: Write>(out: &mut W) -> io::Result<()> {
     let nil = number_of(0, 0, 0, 0);
     let one = number_of(0, 0, 0, 1);
-    case(b"identity", 0, 0, one, nil);
-    case(b"H", 1, 4, one, one);
-    case(b"T", 0, 1, one, nil);
-    case(b"X", 0, 4, nil, one);
-    case(b"n=255", 0, 255, one, nil);
-    case(b"k=60", 60, 0, number_of(0, 0, 0, 1073741824), nil);
+    case(out, b"identity", 0, 0, one, nil)?;
+    case(out, b"H", 1, 4, one, one)?;
+    case(out, b"T", 0, 1, one, nil)?;
+    case(out, b"X", 0, 4, nil, one)?;
+    case(out, b"n=255", 0, 255, one, nil)?;
+    case(out, b"k=60", 60, 0, number_of(0, 0, 0, 1073741824), nil)?;
     case(
+        out,
         b"k=60, reduced",
         60,
         1,
         number_of(-191924351, -210280441, 4968170, -439776288),
         number_of(480679003, -656194707, -134730066, -445695894),
-    );
+    )?;
     case(
+        out,
         b"k=59, reduced",
         59,
         5,
         number_of(-100413179, 84257655, 280559047, -81296202),
         number_of(548061632, -151774328, -385579776, -43328735),
-    );
-    case(b"k=61", 61, 0, one, nil);
-    case(b"k=-1", -1, 0, one, nil);
-    case(b"2^30+1", 60, 0, number_of(0, 0, 0, 1073741825), nil);
-    case(b"-2^30-1", 60, 0, nil, number_of(-1073741825, 0, 0, 0));
-    case(b"squares", 0, 0, one, one);
-    case(b"crosses", 1, 0, number_of(0, 0, 1, 1), nil);
+    )
+}
+
+fn refusals<W: Write>(out: &mut W) -> io::Result<()> {
+    let nil = number_of(0, 0, 0, 0);
+    let one = number_of(0, 0, 0, 1);
+    case(out, b"k=61", 61, 0, one, nil)?;
+    case(out, b"k=-1", -1, 0, one, nil)?;
+    case(out, b"2^30+1", 60, 0, number_of(0, 0, 0, 1073741825), nil)?;
+    case(out, b"-2^30-1", 60, 0, nil, number_of(-1073741825, 0, 0, 0))?;
+    case(out, b"squares", 0, 0, one, one)?;
+    case(out, b"crosses", 1, 0, number_of(0, 0, 1, 1), nil)
+}
+
+fn main(rt: HostRuntime) -> io::Result<()> {
+    let mut out = rt.stdout();
+    views(&mut out)?;
+    refusals(&mut out)
 }

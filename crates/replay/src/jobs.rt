@@ -6,32 +6,34 @@ use record::Record;
 use ring::ZOmega;
 use root_two::{Root, Vect};
 use shown::{number, signed, text};
+use std::io;
+use std::io::Write;
 use unitary::DOmegaUnitary;
 
-fn and_number(x: u64) {
-    text(b" ");
-    number(x);
+fn and_number<W: Write>(out: &mut W, x: u64) -> io::Result<()> {
+    text(out, b" ")?;
+    number(out, x)
 }
 
-fn and_signed(x: i64) {
-    text(b" ");
-    signed(x);
+fn and_signed<W: Write>(out: &mut W, x: i64) -> io::Result<()> {
+    text(out, b" ")?;
+    signed(out, x)
 }
 
-fn and_ring(x: ZOmega) {
-    and_signed(x.a);
-    and_signed(x.b);
-    and_signed(x.c);
-    and_signed(x.d);
+fn and_ring<W: Write>(out: &mut W, x: ZOmega) -> io::Result<()> {
+    and_signed(out, x.a)?;
+    and_signed(out, x.b)?;
+    and_signed(out, x.c)?;
+    and_signed(out, x.d)
 }
 
-fn and_matrix(t: DOmegaUnitary) {
+fn and_matrix<W: Write>(out: &mut W, t: DOmegaUnitary) -> io::Result<()> {
     let z = t.z;
     let w = t.w;
-    and_number(t.k as u64);
-    and_number(t.n as u64);
-    and_ring(z);
-    and_ring(w);
+    and_number(out, t.k as u64)?;
+    and_number(out, t.n as u64)?;
+    and_ring(out, z)?;
+    and_ring(out, w)
 }
 
 fn z_of(r: Record) -> ZOmega {
@@ -52,116 +54,124 @@ fn w_of(r: Record) -> ZOmega {
     }
 }
 
-fn reduce(r: Record) {
+fn reduce<W: Write>(out: &mut W, r: Record) -> io::Result<()> {
     let k = r.k;
     let n = r.n;
     let answer = unitary::reduce(k, n, z_of(r), w_of(r));
     let matrix = answer.matrix;
-    number(answer.refusal as u64);
-    and_matrix(matrix);
+    number(out, answer.refusal as u64)?;
+    and_matrix(out, matrix)
 }
 
-fn from_gates(word: &[u8]) {
+fn from_gates<W: Write>(out: &mut W, word: &[u8]) -> io::Result<()> {
     let answer = unitary::from_gates(word);
     let matrix = answer.matrix;
-    number(answer.refusal as u64);
-    and_number(answer.place as u64);
-    and_matrix(matrix);
+    number(out, answer.refusal as u64)?;
+    and_number(out, answer.place as u64)?;
+    and_matrix(out, matrix)
 }
 
 // The whole lent buffer stands behind the counts.
-fn and_lent(lent: &[u8]) {
-    text(b" ");
-    text(lent);
+fn and_lent<W: Write>(out: &mut W, lent: &[u8]) -> io::Result<()> {
+    text(out, b" ")?;
+    text(out, lent)
 }
 
-fn counts(answer: Written) {
-    number(answer.refusal as u64);
-    and_number(answer.place as u64);
-    and_number(answer.bytes as u64);
-    and_number(answer.tees as u64);
+fn counts<W: Write>(out: &mut W, answer: Written) -> io::Result<()> {
+    number(out, answer.refusal as u64)?;
+    and_number(out, answer.place as u64)?;
+    and_number(out, answer.bytes as u64)?;
+    and_number(out, answer.tees as u64)
 }
 
-fn written(answer: Written, lent: &[u8]) {
-    counts(answer);
-    and_lent(lent);
+fn written<W: Write>(out: &mut W, answer: Written, lent: &[u8]) -> io::Result<()> {
+    counts(out, answer)?;
+    and_lent(out, lent)
 }
 
-fn circuit(answer: qasm::Written, lent: &[u8]) {
-    number(answer.refusal as u64);
-    and_number(answer.place as u64);
-    and_number(answer.bytes as u64);
-    and_lent(lent);
+fn circuit<W: Write>(out: &mut W, answer: qasm::Written, lent: &[u8]) -> io::Result<()> {
+    number(out, answer.refusal as u64)?;
+    and_number(out, answer.place as u64)?;
+    and_number(out, answer.bytes as u64)?;
+    and_lent(out, lent)
 }
 
-fn write_circuit(edition: Edition, word: &[u8], lent: &mut [u8]) {
+fn write_circuit<W: Write>(
+    out: &mut W,
+    edition: Edition,
+    word: &[u8],
+    lent: &mut [u8],
+) -> io::Result<()> {
     let answer = qasm::write(edition, word, lent);
-    circuit(answer, lent);
+    circuit(out, answer, lent)
 }
 
-fn read_circuit(payload: &[u8], lent: &mut [u8]) {
+fn read_circuit<W: Write>(out: &mut W, payload: &[u8], lent: &mut [u8]) -> io::Result<()> {
     let answer = qasm::read(payload, lent);
-    circuit(answer, lent);
+    circuit(out, answer, lent)
 }
 
-fn normalise(word: &[u8], lent: &mut [u8]) {
+fn normalise<W: Write>(out: &mut W, word: &[u8], lent: &mut [u8]) -> io::Result<()> {
     let answer = normal_form::normalise(word, lent);
-    written(answer, lent);
+    written(out, answer, lent)
 }
 
-fn phase_free(word: &[u8], lent: &mut [u8]) {
+fn phase_free<W: Write>(out: &mut W, word: &[u8], lent: &mut [u8]) -> io::Result<()> {
     let answer = normal_form::phase_free(word, lent);
-    written(answer, lent);
+    written(out, answer, lent)
 }
 
-fn synthesise(r: Record, lent: &mut [u8]) {
+fn synthesise<W: Write>(out: &mut W, r: Record, lent: &mut [u8]) -> io::Result<()> {
     let k = r.k;
     let n = r.n;
     let answer = synthesis_of_clifford_t::synthesise(k, n, z_of(r), w_of(r), lent);
-    counts(Written {
-        refusal: answer.refusal,
-        place: 0,
-        bytes: answer.bytes,
-        tees: answer.tees,
-    });
-    and_number(answer.steps as u64);
-    and_lent(lent);
+    counts(
+        out,
+        Written {
+            refusal: answer.refusal,
+            place: 0,
+            bytes: answer.bytes,
+            tees: answer.tees,
+        },
+    )?;
+    and_number(out, answer.steps as u64)?;
+    and_lent(out, lent)
 }
 
-fn t_count(r: Record) {
+fn t_count<W: Write>(out: &mut W, r: Record) -> io::Result<()> {
     let k = r.k;
     let n = r.n;
     let answer = rotation::t_count(k, n, z_of(r), w_of(r));
-    number(answer.refusal as u64);
-    and_number(answer.tees as u64);
+    number(out, answer.refusal as u64)?;
+    and_number(out, answer.tees as u64)
 }
 
-fn and_root(x: Root) {
-    and_signed(x.p);
-    and_signed(x.q);
+fn and_root<W: Write>(out: &mut W, x: Root) -> io::Result<()> {
+    and_signed(out, x.p)?;
+    and_signed(out, x.q)
 }
 
-fn and_row(x: Root, y: Root, z: Root) {
-    and_root(x);
-    and_root(y);
-    and_root(z);
+fn and_row<W: Write>(out: &mut W, x: Root, y: Root, z: Root) -> io::Result<()> {
+    and_root(out, x)?;
+    and_root(out, y)?;
+    and_root(out, z)
 }
 
 // The three columns, row by row.
-fn and_rows(x: Vect, y: Vect, z: Vect) {
-    and_row(x.x, y.x, z.x);
-    and_row(x.y, y.y, z.y);
-    and_row(x.z, y.z, z.z);
+fn and_rows<W: Write>(out: &mut W, x: Vect, y: Vect, z: Vect) -> io::Result<()> {
+    and_row(out, x.x, y.x, z.x)?;
+    and_row(out, x.y, y.y, z.y)?;
+    and_row(out, x.z, y.z, z.z)
 }
 
-fn rotate(r: Record) {
+fn rotate<W: Write>(out: &mut W, r: Record) -> io::Result<()> {
     let k = r.k;
     let n = r.n;
     let answer = rotation::rotate(k, n, z_of(r), w_of(r));
     let rotation = answer.rotation;
-    number(answer.refusal as u64);
-    and_number(rotation.e as u64);
-    and_rows(rotation.x, rotation.y, rotation.z);
+    number(out, answer.refusal as u64)?;
+    and_number(out, rotation.e as u64)?;
+    and_rows(out, rotation.x, rotation.y, rotation.z)
 }
 
 // The oracle asks for Cliffords of i32 only.
@@ -195,22 +205,25 @@ impl Four {
     }
 }
 
-fn parts(q: Clifford) {
-    number(q.a as u64);
-    and_number(q.b as u64);
-    and_number(q.c as u64);
-    and_number(q.d as u64);
+fn parts<W: Write>(out: &mut W, q: Clifford) -> io::Result<()> {
+    number(out, q.a as u64)?;
+    and_number(out, q.b as u64)?;
+    and_number(out, q.c as u64)?;
+    and_number(out, q.d as u64)
 }
 
-fn product(r: Record) {
+fn product<W: Write>(out: &mut W, r: Record) -> io::Result<()> {
     let x = Four::of(z_of(r));
     let y = Four::of(w_of(r));
-    parts(clifford::clifford_product(x.a, x.b, x.c, x.d, y.a, y.b, y.c, y.d));
+    parts(
+        out,
+        clifford::clifford_product(x.a, x.b, x.c, x.d, y.a, y.b, y.c, y.d),
+    )
 }
 
-fn inverse(r: Record) {
+fn inverse<W: Write>(out: &mut W, r: Record) -> io::Result<()> {
     let x = Four::of(z_of(r));
-    parts(clifford::clifford_inverse(x.a, x.b, x.c, x.d));
+    parts(out, clifford::clifford_inverse(x.a, x.b, x.c, x.d))
 }
 
 fn axis_number(axis: Axis) -> u64 {
@@ -221,42 +234,41 @@ fn axis_number(axis: Axis) -> u64 {
     }
 }
 
-fn coset(r: Record) {
+fn coset<W: Write>(out: &mut W, r: Record) -> io::Result<()> {
     let x = Four::of(z_of(r));
     let split = clifford::clifford_split(x.a, x.b, x.c, x.d);
     let axis = split.axis;
     let rest = split.rest;
-    number(axis_number(axis));
-    text(b" ");
-    parts(rest);
+    number(out, axis_number(axis))?;
+    text(out, b" ")?;
+    parts(out, rest)
 }
 
-fn of_record(job: u8, r: Record, lent: &mut [u8]) {
+fn of_record<W: Write>(out: &mut W, job: u8, r: Record, lent: &mut [u8]) -> io::Result<()> {
     if r.refusal != 0 {
-        text(b"no record");
-        return;
+        return text(out, b"no record");
     }
     match job {
-        b'1' => reduce(r),
-        b'4' => synthesise(r, lent),
-        b'T' => t_count(r),
-        b'A' => rotate(r),
-        b'P' => product(r),
-        b'I' => inverse(r),
-        b'C' => coset(r),
-        _ => text(b"no job"),
+        b'1' => reduce(out, r),
+        b'4' => synthesise(out, r, lent),
+        b'T' => t_count(out, r),
+        b'A' => rotate(out, r),
+        b'P' => product(out, r),
+        b'I' => inverse(out, r),
+        b'C' => coset(out, r),
+        _ => text(out, b"no job"),
     }
 }
 
 // The payload of 2, 3, 5, Q and G is a word, that of R a circuit's text, that of the others a bench record.
-pub fn answer(job: u8, payload: &[u8], lent: &mut [u8]) {
+pub fn answer<W: Write>(out: &mut W, job: u8, payload: &[u8], lent: &mut [u8]) -> io::Result<()> {
     match job {
-        b'2' => from_gates(payload),
-        b'3' => normalise(payload, lent),
-        b'5' => phase_free(payload, lent),
-        b'Q' => write_circuit(Edition::Two, payload, lent),
-        b'G' => write_circuit(Edition::Three, payload, lent),
-        b'R' => read_circuit(payload, lent),
-        _ => of_record(job, record::read(payload), lent),
+        b'2' => from_gates(out, payload),
+        b'3' => normalise(out, payload, lent),
+        b'5' => phase_free(out, payload, lent),
+        b'Q' => write_circuit(out, Edition::Two, payload, lent),
+        b'G' => write_circuit(out, Edition::Three, payload, lent),
+        b'R' => read_circuit(out, payload, lent),
+        _ => of_record(out, job, record::read(payload), lent),
     }
 }

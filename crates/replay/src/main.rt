@@ -4,8 +4,10 @@
 mod jobs;
 mod requests;
 
-fn main() {
+use std::io;
+
+fn main(rt: HostRuntime) -> io::Result<()> {
     let mut payload = [0u8; 10496];
     let mut lent = [0u8; 4608];
-    requests::all(&mut payload, &mut lent);
+    requests::all(&mut rt.stdin(), &mut rt.stdout(), &mut payload, &mut lent)
 }

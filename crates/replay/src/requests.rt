@@ -2,6 +2,8 @@
 ghost use Rattle.std.specs.Prelude.{◌<◌};
 
 use crate::jobs;
+use std::io;
+use std::io::{Read, Write};
 
 fn digit(b: u8) -> usize
     ensures { result < 10 }
@@ -24,11 +26,11 @@ fn five(a: u8, b: u8, c: u8, d: u8, e: u8) -> usize
 }
 
 // Whether all of this part of the buffer was read.
-fn filled(buf: &mut [u8], size: usize) -> bool {
+fn filled<R: Read>(from: &mut R, buf: &mut [u8], size: usize) -> io::Result<bool> {
     if size > buf.len() {
-        return false;
+        return Ok(false);
     }
-    io::read_full(0, &mut buf[..size]) == size
+    Ok(input::read_full(from, &mut buf[..size])? == size)
 }
 
 fn dots(lent: &mut [u8]) {
@@ -40,40 +42,58 @@ fn dots(lent: &mut [u8]) {
 }
 
 // The job on the payload without its LF, with so much of the buffer lent.
-fn run(job: u8, payload: &[u8], size: usize, lent: &mut [u8], room: usize) {
+fn run<W: Write>(
+    out: &mut W,
+    job: u8,
+    payload: &[u8],
+    size: usize,
+    lent: &mut [u8],
+    room: usize,
+) -> io::Result<()> {
     if size > payload.len() {
-        return;
+        return Ok(());
     }
     if room > lent.len() {
-        return;
+        return Ok(());
     }
     dots(lent);
-    jobs::answer(job, &payload[..size], &mut lent[..room]);
-    shown::text(b"\n");
+    jobs::answer(out, job, &payload[..size], &mut lent[..room])?;
+    shown::text(out, b"\n")
 }
 
 // Whether there was a request.
-fn one(payload: &mut [u8], lent: &mut [u8]) -> bool {
+fn one<R: Read, W: Write>(
+    from: &mut R,
+    out: &mut W,
+    payload: &mut [u8],
+    lent: &mut [u8],
+) -> io::Result<bool> {
     let mut head = [0u8; 14];
-    if io::read_full(0, &mut head) < 14 {
-        return false;
+    if input::read_full(from, &mut head)? < 14 {
+        return Ok(false);
     }
     let job = head[0];
     let room = five(head[2], head[3], head[4], head[5], head[6]);
     let size = five(head[8], head[9], head[10], head[11], head[12]);
-    if !filled(payload, size + 1) {
-        return false;
+    if !filled(from, payload, size + 1)? {
+        return Ok(false);
     }
-    run(job, payload, size, lent, room);
-    true
+    run(out, job, payload, size, lent, room)?;
+    Ok(true)
 }
 
-pub fn all(payload: &mut [u8], lent: &mut [u8]) {
+pub fn all<R: Read, W: Write>(
+    from: &mut R,
+    out: &mut W,
+    payload: &mut [u8],
+    lent: &mut [u8],
+) -> io::Result<()> {
     let mut left: usize = 1000000;
     while left > 0 {
-        if !one(payload, lent) {
-            return;
+        if !one(from, out, payload, lent)? {
+            return Ok(());
         }
         left -= 1;
     }
+    Ok(())
 }

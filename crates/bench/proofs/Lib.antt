@@ -1,0 +1,2 @@
+-- What was read is where the input begins.
+mod Stream

@@ -1,0 +1,2 @@
+-- The words of the contracts on reading.
+pub mod Counts
