@@ -2,43 +2,45 @@
 // the numbers have changed; refusal and length of the length call; the six numbers; the first five codes and the last two.
 use shown::{number, text};
 use slot::Answer;
+use std::io;
+use std::io::Write;
 
-fn answer(a: Answer) {
-    text(b" refusal=");
-    number(a.refusal as u64);
-    text(b" length=");
-    number(a.length);
+fn answer<W: Write>(out: &mut W, a: Answer) -> io::Result<()> {
+    text(out, b" refusal=")?;
+    number(out, a.refusal as u64)?;
+    text(out, b" length=")?;
+    number(out, a.length)
 }
 
-fn spaced(x: u64) {
-    text(b" ");
-    number(x);
+fn spaced<W: Write>(out: &mut W, x: u64) -> io::Result<()> {
+    text(out, b" ")?;
+    number(out, x)
 }
 
-fn numbers(rest: &[u64; 6]) {
-    text(b", rest");
-    spaced(rest[0]);
-    spaced(rest[1]);
-    spaced(rest[2]);
-    spaced(rest[3]);
-    spaced(rest[4]);
-    spaced(rest[5]);
+fn numbers<W: Write>(out: &mut W, rest: &[u64; 6]) -> io::Result<()> {
+    text(out, b", rest")?;
+    spaced(out, rest[0])?;
+    spaced(out, rest[1])?;
+    spaced(out, rest[2])?;
+    spaced(out, rest[3])?;
+    spaced(out, rest[4])?;
+    spaced(out, rest[5])
 }
 
-fn code(c: u8) {
-    spaced(c as u64);
+fn code<W: Write>(out: &mut W, c: u8) -> io::Result<()> {
+    spaced(out, c as u64)
 }
 
-fn codes(syllables: &[u8; 4096]) {
-    text(b", codes");
-    code(syllables[0]);
-    code(syllables[1]);
-    code(syllables[2]);
-    code(syllables[3]);
-    code(syllables[4]);
-    text(b" ..");
-    code(syllables[4094]);
-    code(syllables[4095]);
+fn codes<W: Write>(out: &mut W, syllables: &[u8; 4096]) -> io::Result<()> {
+    text(out, b", codes")?;
+    code(out, syllables[0])?;
+    code(out, syllables[1])?;
+    code(out, syllables[2])?;
+    code(out, syllables[3])?;
+    code(out, syllables[4])?;
+    text(out, b" ..")?;
+    code(out, syllables[4094])?;
+    code(out, syllables[4095])
 }
 
 fn codes_changed(before: &[u8; 4096], after: &[u8; 4096]) -> u64 {
@@ -76,19 +78,25 @@ fn added(word: &[u8], syllables: &mut [u8; 4096], rest: &mut [u64; 6]) -> Answer
     a
 }
 
-pub(crate) fn case(label: &[u8], word: &[u8], syllables: &[u8; 4096], rest: &[u64; 6]) {
+pub(crate) fn case<W: Write>(
+    out: &mut W,
+    label: &[u8],
+    word: &[u8],
+    syllables: &[u8; 4096],
+    rest: &[u64; 6],
+) -> io::Result<()> {
     let mut codes_after = *syllables;
     let mut rest_after = *rest;
-    text(label);
-    text(b":");
-    answer(added(word, &mut codes_after, &mut rest_after));
-    text(b" changed=");
-    number(codes_changed(syllables, &codes_after));
-    text(b"+");
-    number(numbers_changed(rest, &rest_after));
-    text(b",");
-    answer(slot::length(&codes_after, &rest_after));
-    numbers(&rest_after);
-    codes(&codes_after);
-    text(b"\n");
+    text(out, label)?;
+    text(out, b":")?;
+    answer(out, added(word, &mut codes_after, &mut rest_after))?;
+    text(out, b" changed=")?;
+    number(out, codes_changed(syllables, &codes_after))?;
+    text(out, b"+")?;
+    number(out, numbers_changed(rest, &rest_after))?;
+    text(out, b",")?;
+    answer(out, slot::length(&codes_after, &rest_after))?;
+    numbers(out, &rest_after)?;
+    codes(out, &codes_after)?;
+    text(out, b"\n")
 }

@@ -1,47 +1,53 @@
 // The 192 tails and those just out of range, with no syllable: of all counts of bytes up to 15 the length call takes the right one alone. A line for
 // each a, b, c, with d from 0 to 8.
 use shown::{number, text};
+use std::io;
+use std::io::Write;
 
-fn taken(bytes: u64, a: u64, b: u64, c: u64, d: u64) {
+fn taken<W: Write>(out: &mut W, bytes: u64, a: u64, b: u64, c: u64, d: u64) -> io::Result<()> {
     let answer = slot::length(&[0; 4096], &[0, bytes, a, b, c, d]);
     if answer.refusal == 0 {
-        text(b" ");
-        number(answer.length);
+        text(out, b" ")?;
+        number(out, answer.length)?;
     }
+    Ok(())
 }
 
-fn counts(a: u64, b: u64, c: u64, d: u64) {
+fn counts<W: Write>(out: &mut W, a: u64, b: u64, c: u64, d: u64) -> io::Result<()> {
     let mut bytes: u64 = 0;
     while bytes < 16 {
-        taken(bytes, a, b, c, d);
+        taken(out, bytes, a, b, c, d)?;
         bytes += 1;
     }
+    Ok(())
 }
 
-fn phases(a: u64, b: u64, c: u64) {
+fn phases<W: Write>(out: &mut W, a: u64, b: u64, c: u64) -> io::Result<()> {
     let mut d: u64 = 0;
     while d < 9 {
-        text(b" |");
-        counts(a, b, c, d);
+        text(out, b" |")?;
+        counts(out, a, b, c, d)?;
         d += 1;
     }
+    Ok(())
 }
 
-fn tail(a: u64, b: u64, c: u64) {
-    text(b"tail ");
-    number(a);
-    text(b" ");
-    number(b);
-    text(b" ");
-    number(c);
-    phases(a, b, c);
-    text(b"\n");
+fn tail<W: Write>(out: &mut W, a: u64, b: u64, c: u64) -> io::Result<()> {
+    text(out, b"tail ")?;
+    number(out, a)?;
+    text(out, b" ")?;
+    number(out, b)?;
+    text(out, b" ")?;
+    number(out, c)?;
+    phases(out, a, b, c)?;
+    text(out, b"\n")
 }
 
-pub(crate) fn tails() {
+pub(crate) fn tails<W: Write>(out: &mut W) -> io::Result<()> {
     let mut i: u64 = 0;
     while i < 60 {
-        tail(i / 15, i / 5 % 3, i % 5);
+        tail(out, i / 15, i / 5 % 3, i % 5)?;
         i += 1;
     }
+    Ok(())
 }
