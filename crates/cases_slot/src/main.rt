@@ -306,44 +306,17 @@ fn fulls_with_axis<W: Write>(out: &mut W) -> io::Result<()> {
 fn other_fulls<W: Write>(out: &mut W) -> io::Result<()> {
     let mut led = filled(2, 4096);
     led[0] = 1;
-    case(out, b"T, 4095 HT, T", b"T", &led, &[4096, 8192, 0, 0, 0, 0])?;
-    case(
-        out,
-        b"T, 4095 HT, HT",
-        b"HT",
-        &led,
-        &[4096, 8192, 0, 0, 0, 0],
-    )?;
+    let rest = [4096, 8192, 0, 0, 0, 0];
+    case(out, b"T, 4095 HT, T", b"T", &led, &rest)?;
+    case(out, b"T, 4095 HT, HT", b"HT", &led, &rest)?;
     let longest = filled(3, 4096);
-    case(
-        out,
-        b"longest, I",
-        b"I",
-        &longest,
-        &[4096, 12301, 2, 1, 3, 2],
-    )?;
-    case(
-        out,
-        b"longest, W",
-        b"W",
-        &longest,
-        &[4096, 12301, 2, 1, 3, 2],
-    )?;
-    case(
-        out,
-        b"longest, T",
-        b"T",
-        &longest,
-        &[4096, 12301, 2, 1, 3, 2],
-    )?;
+    let rest = [4096, 12301, 2, 1, 3, 2];
+    case(out, b"longest, I", b"I", &longest, &rest)?;
+    case(out, b"longest, W", b"W", &longest, &rest)?;
+    case(out, b"longest, T", b"T", &longest, &rest)?;
     case(out, b"12302, I", b"I", &longest, &[4096, 12302, 2, 1, 3, 2])?;
-    case(
-        out,
-        b"4096 SHT, T",
-        b"T",
-        &longest,
-        &[4096, 12289, 0, 0, 0, 0],
-    )
+    let rest = [4096, 12289, 0, 0, 0, 0];
+    case(out, b"4096 SHT, T", b"T", &longest, &rest)
 }
 
 fn wrong_fulls<W: Write>(out: &mut W) -> io::Result<()> {
