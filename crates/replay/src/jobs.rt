@@ -1,24 +1,16 @@
 // A job on a payload, and its answer in text.
+use crate::line::{and_number, and_signed, and_text};
+use crate::slots;
 use clifford::{Axis, Clifford};
 use normal_form::Written;
 use qasm::Edition;
 use record::Record;
 use ring::ZOmega;
 use root_two::{Root, Vect};
-use shown::{number, signed, text};
+use shown::{number, text};
 use std::io;
 use std::io::Write;
 use unitary::DOmegaUnitary;
-
-fn and_number<W: Write>(out: &mut W, x: u64) -> io::Result<()> {
-    text(out, b" ")?;
-    number(out, x)
-}
-
-fn and_signed<W: Write>(out: &mut W, x: i64) -> io::Result<()> {
-    text(out, b" ")?;
-    signed(out, x)
-}
 
 fn and_ring<W: Write>(out: &mut W, x: ZOmega) -> io::Result<()> {
     and_signed(out, x.a)?;
@@ -71,12 +63,6 @@ fn from_gates<W: Write>(out: &mut W, word: &[u8]) -> io::Result<()> {
     and_matrix(out, matrix)
 }
 
-// The whole lent buffer stands behind the counts.
-fn and_lent<W: Write>(out: &mut W, lent: &[u8]) -> io::Result<()> {
-    text(out, b" ")?;
-    text(out, lent)
-}
-
 fn counts<W: Write>(out: &mut W, answer: Written) -> io::Result<()> {
     number(out, answer.refusal as u64)?;
     and_number(out, answer.place as u64)?;
@@ -84,16 +70,17 @@ fn counts<W: Write>(out: &mut W, answer: Written) -> io::Result<()> {
     and_number(out, answer.tees as u64)
 }
 
+// The whole lent buffer stands behind the counts.
 fn written<W: Write>(out: &mut W, answer: Written, lent: &[u8]) -> io::Result<()> {
     counts(out, answer)?;
-    and_lent(out, lent)
+    and_text(out, lent)
 }
 
 fn circuit<W: Write>(out: &mut W, answer: qasm::Written, lent: &[u8]) -> io::Result<()> {
     number(out, answer.refusal as u64)?;
     and_number(out, answer.place as u64)?;
     and_number(out, answer.bytes as u64)?;
-    and_lent(out, lent)
+    and_text(out, lent)
 }
 
 fn write_circuit<W: Write>(
@@ -135,7 +122,7 @@ fn synthesise<W: Write>(out: &mut W, r: Record, lent: &mut [u8]) -> io::Result<(
         },
     )?;
     and_number(out, answer.steps as u64)?;
-    and_lent(out, lent)
+    and_text(out, lent)
 }
 
 fn t_count<W: Write>(out: &mut W, r: Record) -> io::Result<()> {
@@ -260,7 +247,7 @@ fn of_record<W: Write>(out: &mut W, job: u8, r: Record, lent: &mut [u8]) -> io::
     }
 }
 
-// The payload of 2, 3, 5, Q and G is a word, that of R a circuit's text, that of the others a bench record.
+// The payload of 2, 3, 5, Q and G is a word, that of R a circuit's text, that of S and L a slot, that of the others a bench record.
 pub fn answer<W: Write>(out: &mut W, job: u8, payload: &[u8], lent: &mut [u8]) -> io::Result<()> {
     match job {
         b'2' => from_gates(out, payload),
@@ -269,6 +256,8 @@ pub fn answer<W: Write>(out: &mut W, job: u8, payload: &[u8], lent: &mut [u8]) -
         b'Q' => write_circuit(out, Edition::Two, payload, lent),
         b'G' => write_circuit(out, Edition::Three, payload, lent),
         b'R' => read_circuit(out, payload, lent),
+        b'S' => slots::answer(out, job, payload, lent.len()),
+        b'L' => slots::answer(out, job, payload, lent.len()),
         _ => of_record(out, job, record::read(payload), lent),
     }
 }

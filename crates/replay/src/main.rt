@@ -2,7 +2,9 @@
 #![tactic(auto)]
 
 mod jobs;
+mod line;
 mod requests;
+mod slots;
 
 use std::io;
 
