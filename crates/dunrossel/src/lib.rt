@@ -183,7 +183,9 @@ pub fn dunrossel_qasm_read(text: &[u8], buf: &mut [u8], out: &mut [u64; 2]) -> u
     answer.refusal
 }
 
-// The answer to a right record, by job 4.
+// The answer to a right record, by job 4. It stays a call: where the compiler sees whose memory the word is in, it copies it by memcpy, and the
+// archive is to need memset alone.
+#[inline(never)]
 fn answer_record(r: Record, word: &mut [u8], out: &mut [u8]) -> usize
     requires fact_1 { enough ≤ length word.old }
     requires fact_2 { 512 ≤ length out.old }
