@@ -1,6 +1,6 @@
 /* Budgets a dial: how many T each of its rotations costs, and all together, without making a word.
  *
- *     rt staticlib dunrossel
+ *     tools/archive
  *     cc -Iinclude examples/budget.c target/staticlib/libdunrossel.a -o budget
  *     ./budget examples/dial.records
  *

@@ -1,6 +1,6 @@
 /* Words to circuits and back, from standard input to standard output:
  *
- *     rt staticlib dunrossel
+ *     tools/archive
  *     cc -Iinclude examples/circuit.c target/staticlib/libdunrossel.a -o circuit
  *     ./circuit 2 <examples/circuit2.word          writes OpenQASM 2.0
  *     ./circuit 3 <examples/circuit3.word          writes OpenQASM 3.0

@@ -1,6 +1,6 @@
 /* Calls the library from C, prints what it answers, and checks it; the status is 1 if an answer is wrong.
  *
- *     rt staticlib dunrossel
+ *     tools/archive
  *     cc -Iinclude examples/link.c target/staticlib/libdunrossel.a -o link
  *     ./link */
 #include "dunrossel.h"

@@ -1,6 +1,6 @@
 //! Calls the library from Rust, prints what it answers, and checks it; the status is not 0 if an answer is wrong.
 //!
-//!     rt staticlib dunrossel
+//!     tools/archive
 //!     rustc --edition 2021 -L native=target/staticlib examples/link.rs -o link
 //!     ./link
 

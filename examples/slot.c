@@ -1,6 +1,6 @@
 /* A console's slot: letters are added to it one after another, and after each line it says how many bytes their word takes.
  *
- *     rt staticlib dunrossel
+ *     tools/archive
  *     cc -Iinclude examples/slot.c target/staticlib/libdunrossel.a -o slot
  *     ./slot 16 <examples/slot.letters              a new slot, of 16 bytes
  *     ./slot 16 slot.kept <examples/slot.letters    goes on with the slot that slot.kept has, and keeps it there

@@ -1,4 +1,4 @@
-/* Dunrossel: the words of H, S, X, W, T for exact one-qubit matrices. For libdunrossel.a (rt staticlib dunrossel), x86-64 Linux.
+/* Dunrossel: the words of H, S, X, W, T for exact one-qubit matrices. For libdunrossel.a (tools/archive), x86-64 Linux.
  *
  * Numbers. omega is (1+i)/root two, an eighth root of one, omega^4 = -1. zw is z.a z.b z.c z.d w.a w.b w.c w.d; (a,b,c,d) is
  * a·omega^3 + b·omega^2 + c·omega + d. With k and n they are the matrix with rows [z, -conj(w)·omega^n] and

@@ -1,7 +1,5 @@
-// Calls the library for a harness that can't link it: the archive is x86-64 code, and this program runs it under
-// the kit's emulator elsewhere. driver FILE maps FILE, which the harness shares, and makes one call for each byte
-// read from standard input; `driver` alone prints how much stack each export takes. No C library: three calls of
-// the system, and what a compiler may ask for.
+// Prints how much stack each export of the library takes. No C library: two calls of the system, and what a compiler
+// may ask for.
 typedef unsigned char u8;
 typedef long i64;
 typedef unsigned long u64;
@@ -33,7 +31,6 @@ static i64 sys(i64 n, i64 a, i64 b, i64 c, i64 d, i64 e) {
   __asm__ volatile("syscall" : "=a"(r) : "a"(n), "D"(a), "S"(b), "d"(c), "r"(r10), "r"(r8), "r"(r9) : "rcx", "r11", "memory");
   return r;
 }
-static i64 read_byte(u8 *b) { return sys(0, 0, (i64)b, 1, 0, 0); }
 static void write_bytes(const void *b, u64 n) { sys(1, 1, (i64)b, (i64)n, 0, 0); }
 __attribute__((noreturn)) static void end(i64 status) {
   for (;;) sys(60, status, 0, 0, 0, 0);
@@ -65,7 +62,7 @@ __attribute__((weak)) int memcmp(const void *p, const void *q, u64 n) {
   return 0;
 }
 
-// The job's number as src/abi.rs has it; a pointer is a place in the shared memory.
+// The job's number as src/abi.rs has it.
 static u64 call(u64 job, const u64 *a) {
   switch (job) {
   case 0: return dunrossel_reduce((i64)a[0], (u8)a[1], (i64 *)a[2], (i64 *)a[3]);
@@ -88,20 +85,6 @@ static u64 call(u64 job, const u64 *a) {
   case 17: return dunrossel_slot_length((u8 *)a[0], (u64 *)a[1], (u64 *)a[2]);
   }
   end(3);
-}
-
-// The call's words: job, six arguments, which of them are places (a bit each), and the answer.
-static void serve(const char *file) {
-  i64 fd = sys(2, (i64)file, 2, 0, 0, 0);
-  u64 *shared = (u64 *)sys(9, 0, 8 << 20, 3, 1, fd);
-  if (fd < 0 || (i64)shared < 0) end(2);
-  u8 b;
-  while (read_byte(&b) == 1) {
-    u64 args[6];
-    for (int i = 0; i < 6; i++) args[i] = shared[1 + i] + (shared[7] >> i & 1 ? (u64)shared : 0);
-    shared[8] = call(shared[0], args);
-    write_bytes(&b, 1);
-  }
 }
 
 // A call on a stack of our own, filled before and looked at after.
@@ -171,11 +154,8 @@ static void stacks(void) {
   print("dunrossel_bench", taken(9, (u64[]){(u64)record, sizeof record - 1, t}));
 }
 
-__attribute__((used)) static void start(const u64 *sp) {
-  if (sp[0] > 1)
-    serve((const char *)sp[2]);
-  else
-    stacks();
+__attribute__((used)) static void start(void) {
+  stacks();
   end(0);
 }
-__asm__(".globl _start\n_start:\n\tmov %rsp, %rdi\n\tand $-16, %rsp\n\tcall start\n");
+__asm__(".globl _start\n_start:\n\tand $-16, %rsp\n\tcall start\n");

@@ -1,5 +1,4 @@
-//! How the library is reached: linked into this program, or, where this machine can't link x86-64 code, in a
-//! program of its own under the kit's emulator (driver.c). Both work on one piece of memory.
+//! How the library is reached: linked into this program. All calls work on one piece of memory.
 
 use crate::abi::Job;
 
@@ -19,8 +18,6 @@ pub enum Word {
 
 pub struct Library {
     memory: &'static mut [u8],
-    #[cfg(not(linked))]
-    driver: far::Driver,
 }
 
 impl Library {
@@ -31,7 +28,6 @@ impl Library {
 
 /// The exports: in `c` those of the library, in `before` those of an earlier archive (`build` has renamed them), where
 /// one is timed beside it.
-#[cfg(linked)]
 macro_rules! exports {
     ($(pub fn $name:ident($($argument:ident: $type:ty),*) $(-> $answer:ty)?;)*) => {
         pub mod c {
@@ -52,7 +48,6 @@ macro_rules! exports {
     };
 }
 
-#[cfg(linked)]
 exports! {
     pub fn dunrossel_reduce(k: i64, n: u8, zw: *const i64, out: *mut i64) -> u8;
     pub fn dunrossel_matrix(word: *const u8, len: usize, out: *mut i64, place: *mut u64) -> u8;
@@ -74,7 +69,6 @@ exports! {
     pub fn dunrossel_slot_length(syllables: *const u8, rest: *const u64, length: *mut u64) -> u8;
 }
 
-#[cfg(linked)]
 impl Library {
     pub fn start() -> Library {
         // Eight bytes at a time, so that every place is aligned for any number.
@@ -136,82 +130,5 @@ impl Library {
                 Job::SlotLength => c::dunrossel_slot_length(p!(0), p!(1), p!(2)) as u64,
             }
         }
-    }
-}
-
-#[cfg(not(linked))]
-impl Library {
-    pub fn start() -> Library {
-        let (memory, driver) = far::start(SIZE);
-        Library { memory, driver }
-    }
-
-    /// The call's words as driver.c reads them: job, six arguments, which of them are places, the answer.
-    pub fn call(&mut self, job: Job, args: &[Word]) -> u64 {
-        let mut words = [0u64; 9];
-        words[0] = job as u64;
-        for (i, word) in args.iter().enumerate() {
-            match word {
-                Word::Number(x) => words[1 + i] = *x,
-                Word::At(place) => {
-                    words[1 + i] = *place as u64;
-                    words[7] |= 1 << i;
-                }
-            }
-        }
-        for (i, word) in words.iter().enumerate() {
-            self.memory[i * 8..i * 8 + 8].copy_from_slice(&word.to_ne_bytes());
-        }
-        self.driver.turn();
-        u64::from_ne_bytes(self.memory[64..72].try_into().unwrap())
-    }
-}
-
-#[cfg(not(linked))]
-mod far {
-    use std::fs::{remove_file, OpenOptions};
-    use std::io::{Read, Write};
-    use std::os::fd::AsRawFd;
-    use std::process::{ChildStdin, ChildStdout, Command, Stdio};
-
-    extern "C" {
-        fn mmap(at: *mut u8, size: usize, protection: i32, flags: i32, fd: i32, from: i64) -> *mut u8;
-    }
-
-    pub struct Driver(ChildStdin, ChildStdout);
-
-    impl Driver {
-        /// One byte there, one byte back: in between the driver makes the call.
-        pub fn turn(&mut self) {
-            let done = self.0.write_all(&[1]).and_then(|()| self.1.read_exact(&mut [0]));
-            done.expect("the library's program ended: a call of it failed");
-        }
-    }
-
-    pub fn start(size: usize) -> (&'static mut [u8], Driver) {
-        let shared = std::env::temp_dir().join(format!("oracle-{}", std::process::id()));
-        let file = OpenOptions::new().read(true).write(true).create_new(true).open(&shared).expect("shared memory");
-        file.set_len(size as u64).expect("shared memory");
-        let mut child = Command::new(env!("ORACLE_EMULATOR"))
-            .arg(env!("ORACLE_DRIVER"))
-            .arg(&shared)
-            .stdin(Stdio::piped())
-            .stdout(Stdio::piped())
-            .spawn()
-            .expect("the emulator");
-        let mut driver = Driver(child.stdin.take().unwrap(), child.stdout.take().unwrap());
-        // Read and write, shared.
-        let at = unsafe { mmap(std::ptr::null_mut(), size, 3, 1, file.as_raw_fd(), 0) };
-        assert!(at as isize != -1, "shared memory");
-        let memory = unsafe { std::slice::from_raw_parts_mut(at, size) };
-        // A first call, of Clifford product on zeros, so that the driver has opened the file before its name goes.
-        memory[0] = 5;
-        memory[56] = 7;
-        memory[8..10].copy_from_slice(&8192u16.to_ne_bytes());
-        memory[16..18].copy_from_slice(&8192u16.to_ne_bytes());
-        memory[24..26].copy_from_slice(&4096u16.to_ne_bytes());
-        driver.turn();
-        remove_file(&shared).expect("shared memory");
-        (memory, driver)
     }
 }

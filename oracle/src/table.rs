@@ -1,5 +1,5 @@
-//! Works out the table of crates/normal_form/src/table.rt from exact arithmetic of the harness's own, and prints it line
-//! for line as it stands there.
+//! Works out the table of crates/normal_form/src/table.rt from exact arithmetic of the harness's own, and prints it, an
+//! entry a line.
 
 #[allow(dead_code)]
 mod exact;

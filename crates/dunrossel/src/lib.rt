@@ -18,8 +18,7 @@ use qasm::Edition;
 use record::Record;
 use ring::ZOmega;
 
-#[unsafe(no_mangle)]
-pub extern "C" fn dunrossel_reduce(k: i64, n: u8, zw: &[i64; 8], out: &mut [i64; 10]) -> u8
+pub fn dunrossel_reduce(k: i64, n: u8, zw: &[i64; 8], out: &mut [i64; 10]) -> u8
     ensures { Reduces k n zw.now (result, out.new) }
 {
     let z = handed::z_of(zw);
@@ -30,8 +29,7 @@ pub extern "C" fn dunrossel_reduce(k: i64, n: u8, zw: &[i64; 8], out: &mut [i64;
     answer.refusal
 }
 
-#[unsafe(no_mangle)]
-pub extern "C" fn dunrossel_matrix(word: &[u8], out: &mut [i64; 10], place: &mut u64) -> u8
+pub fn dunrossel_matrix(word: &[u8], out: &mut [i64; 10], place: &mut u64) -> u8
     ensures { Multiplies word.now (result, (out.new, place.new)) }
 {
     let answer = unitary::from_gates(word);
@@ -41,8 +39,7 @@ pub extern "C" fn dunrossel_matrix(word: &[u8], out: &mut [i64; 10], place: &mut
     answer.refusal
 }
 
-#[unsafe(no_mangle)]
-pub extern "C" fn dunrossel_normalise(word: &[u8], buf: &mut [u8], out: &mut [u64; 3]) -> u8
+pub fn dunrossel_normalise(word: &[u8], buf: &mut [u8], out: &mut [u64; 3]) -> u8
     ensures { Writes Normalises word.now buf.old (result, (out.new, buf.new)) }
 {
     let answer = normal_form::normalise(word, buf);
@@ -50,8 +47,7 @@ pub extern "C" fn dunrossel_normalise(word: &[u8], buf: &mut [u8], out: &mut [u6
     answer.refusal
 }
 
-#[unsafe(no_mangle)]
-pub extern "C" fn dunrossel_phase_free(word: &[u8], buf: &mut [u8], out: &mut [u64; 3]) -> u8
+pub fn dunrossel_phase_free(word: &[u8], buf: &mut [u8], out: &mut [u64; 3]) -> u8
     ensures { Writes DropsPhase word.now buf.old (result, (out.new, buf.new)) }
 {
     let answer = normal_form::phase_free(word, buf);
@@ -59,8 +55,7 @@ pub extern "C" fn dunrossel_phase_free(word: &[u8], buf: &mut [u8], out: &mut [u
     answer.refusal
 }
 
-#[unsafe(no_mangle)]
-pub extern "C" fn dunrossel_slot_add(
+pub fn dunrossel_slot_add(
     letter: u8,
     syllables: &mut [u8; 4096],
     rest: &mut [u64; 6],
@@ -73,12 +68,7 @@ pub extern "C" fn dunrossel_slot_add(
     answer.refusal
 }
 
-#[unsafe(no_mangle)]
-pub extern "C" fn dunrossel_slot_length(
-    syllables: &[u8; 4096],
-    rest: &[u64; 6],
-    length: &mut u64,
-) -> u8
+pub fn dunrossel_slot_length(syllables: &[u8; 4096], rest: &[u64; 6], length: &mut u64) -> u8
     ensures { Measures syllables.now rest.now (result, length.new) }
 {
     let answer = slot::length(syllables, rest);
@@ -86,8 +76,7 @@ pub extern "C" fn dunrossel_slot_length(
     answer.refusal
 }
 
-#[unsafe(no_mangle)]
-pub extern "C" fn dunrossel_clifford_product(x: &[i32; 4], y: &[i32; 4], out: &mut [i32; 4])
+pub fn dunrossel_clifford_product(x: &[i32; 4], y: &[i32; 4], out: &mut [i32; 4])
     ensures { Multiplied x.now y.now out.new }
 {
     let p = handed::four_of(x);
@@ -96,8 +85,7 @@ pub extern "C" fn dunrossel_clifford_product(x: &[i32; 4], y: &[i32; 4], out: &m
     handed::put_clifford(answer, out);
 }
 
-#[unsafe(no_mangle)]
-pub extern "C" fn dunrossel_clifford_inverse(x: &[i32; 4], out: &mut [i32; 4])
+pub fn dunrossel_clifford_inverse(x: &[i32; 4], out: &mut [i32; 4])
     ensures { Inverted x.now out.new }
 {
     let q = handed::four_of(x);
@@ -105,8 +93,7 @@ pub extern "C" fn dunrossel_clifford_inverse(x: &[i32; 4], out: &mut [i32; 4])
     handed::put_clifford(answer, out);
 }
 
-#[unsafe(no_mangle)]
-pub extern "C" fn dunrossel_clifford_coset(x: &[i32; 4], out: &mut [i32; 5])
+pub fn dunrossel_clifford_coset(x: &[i32; 4], out: &mut [i32; 5])
     ensures { Parted x.now out.new }
 {
     let q = handed::four_of(x);
@@ -114,8 +101,7 @@ pub extern "C" fn dunrossel_clifford_coset(x: &[i32; 4], out: &mut [i32; 5])
     handed::put_coset(answer, out);
 }
 
-#[unsafe(no_mangle)]
-pub extern "C" fn dunrossel_view(k: i64, n: u8, zw: &[i64; 8], out: &mut [f64; 8]) -> u8
+pub fn dunrossel_view(k: i64, n: u8, zw: &[i64; 8], out: &mut [f64; 8]) -> u8
     ensures { Views k n zw.now (result, out.new) }
 {
     let z = handed::z_of(zw);
@@ -126,8 +112,7 @@ pub extern "C" fn dunrossel_view(k: i64, n: u8, zw: &[i64; 8], out: &mut [f64; 8
     answer.refusal
 }
 
-#[unsafe(no_mangle)]
-pub extern "C" fn dunrossel_t_count(k: i64, n: u8, zw: &[i64; 8], tees: &mut u64) -> u8
+pub fn dunrossel_t_count(k: i64, n: u8, zw: &[i64; 8], tees: &mut u64) -> u8
     ensures { Counts k n zw.now (result, tees.new) }
 {
     let z = handed::z_of(zw);
@@ -137,8 +122,7 @@ pub extern "C" fn dunrossel_t_count(k: i64, n: u8, zw: &[i64; 8], tees: &mut u64
     answer.refusal
 }
 
-#[unsafe(no_mangle)]
-pub extern "C" fn dunrossel_rotation(k: i64, n: u8, zw: &[i64; 8], out: &mut [i64; 19]) -> u8
+pub fn dunrossel_rotation(k: i64, n: u8, zw: &[i64; 8], out: &mut [i64; 19]) -> u8
     ensures { Rotates k n zw.now (result, out.new) }
 {
     let z = handed::z_of(zw);
@@ -149,14 +133,7 @@ pub extern "C" fn dunrossel_rotation(k: i64, n: u8, zw: &[i64; 8], out: &mut [i6
     answer.refusal
 }
 
-#[unsafe(no_mangle)]
-pub extern "C" fn dunrossel_synthesise(
-    k: i64,
-    n: u8,
-    zw: &[i64; 8],
-    buf: &mut [u8],
-    out: &mut [u64; 3],
-) -> u8
+pub fn dunrossel_synthesise(k: i64, n: u8, zw: &[i64; 8], buf: &mut [u8], out: &mut [u64; 3]) -> u8
     ensures { Synthesises counts_of k n zw.now buf.old (result, (out.new, buf.new)) }
 {
     let z = handed::z_of(zw);
@@ -166,8 +143,7 @@ pub extern "C" fn dunrossel_synthesise(
     answer.refusal
 }
 
-#[unsafe(no_mangle)]
-pub extern "C" fn dunrossel_synthesise_steps(
+pub fn dunrossel_synthesise_steps(
     k: i64,
     n: u8,
     zw: &[i64; 8],
@@ -183,8 +159,7 @@ pub extern "C" fn dunrossel_synthesise_steps(
     counted.refusal
 }
 
-#[unsafe(no_mangle)]
-pub extern "C" fn dunrossel_qasm2_write(word: &[u8], buf: &mut [u8], out: &mut [u64; 2]) -> u8
+pub fn dunrossel_qasm2_write(word: &[u8], buf: &mut [u8], out: &mut [u64; 2]) -> u8
     ensures { Converts (WriteOutcome two word.now buf.old) (result, (out.new, buf.new)) }
 {
     let answer = qasm::write(Edition::Two, word, buf);
@@ -192,8 +167,7 @@ pub extern "C" fn dunrossel_qasm2_write(word: &[u8], buf: &mut [u8], out: &mut [
     answer.refusal
 }
 
-#[unsafe(no_mangle)]
-pub extern "C" fn dunrossel_qasm3_write(word: &[u8], buf: &mut [u8], out: &mut [u64; 2]) -> u8
+pub fn dunrossel_qasm3_write(word: &[u8], buf: &mut [u8], out: &mut [u64; 2]) -> u8
     ensures { Converts (WriteOutcome three word.now buf.old) (result, (out.new, buf.new)) }
 {
     let answer = qasm::write(Edition::Three, word, buf);
@@ -201,8 +175,7 @@ pub extern "C" fn dunrossel_qasm3_write(word: &[u8], buf: &mut [u8], out: &mut [
     answer.refusal
 }
 
-#[unsafe(no_mangle)]
-pub extern "C" fn dunrossel_qasm_read(text: &[u8], buf: &mut [u8], out: &mut [u64; 2]) -> u8
+pub fn dunrossel_qasm_read(text: &[u8], buf: &mut [u8], out: &mut [u64; 2]) -> u8
     ensures { Converts (ReadOutcome text.now buf.old) (result, (out.new, buf.new)) }
 {
     let answer = qasm::read(text, buf);
@@ -210,7 +183,9 @@ pub extern "C" fn dunrossel_qasm_read(text: &[u8], buf: &mut [u8], out: &mut [u6
     answer.refusal
 }
 
-// The answer to a right record, by job 4.
+// The answer to a right record, by job 4. It stays a call: where the compiler sees whose memory the word is in, it copies it by memcpy, and the
+// archive is to need memset alone.
+#[inline(never)]
 fn answer_record(r: Record, word: &mut [u8], out: &mut [u8]) -> usize
     requires fact_1 { enough ≤ length word.old }
     requires fact_2 { 512 ≤ length out.old }
@@ -239,8 +214,7 @@ fn answer_record(r: Record, word: &mut [u8], out: &mut [u8]) -> usize
     )
 }
 
-#[unsafe(no_mangle)]
-pub extern "C" fn dunrossel_bench(text: &[u8], out: &mut [u8; 512]) -> usize
+pub fn dunrossel_bench(text: &[u8], out: &mut [u8; 512]) -> usize
     ensures { BenchOutcome text.now out.old result out.new }
 {
     let r = record::read(text);
