@@ -3,7 +3,14 @@ use Rattle.std.specs.Prelude.{Bool, true, false, not, List, ℕ, ◌≤◌, ◌<
 use Rattle.std.proofs.Common.{subst, arith, ltb→lt, nltb→le, take_all}
 use Rattle.record.specs.Longest.{longest_record}
 use Rattle.dunrossel.specs.Meaning.Bench.{BenchOutcome}
-use Rattle.dunrossel.specs.Beginning.{Begins, Answers, beginning_whole}
+use Rattle.dunrossel.specs.Beginning.{Begins, Answers, both_refused, beginning_long}
+
+module _ (s : List ℕ) (n : ℕ) (long : longest_record < n) (there : n ≤ length s) (old : List ℕ) (size : ℕ) (new : List ℕ) where
+  pub beginning_whole : BenchOutcome (take n s) old size new → BenchOutcome s old size new
+  beginning_whole = both_refused (take n s) s (beginning_long s n long there old size new) (omega arith) old size new
+
+  pub whole_beginning : BenchOutcome s old size new → BenchOutcome (take n s) old size new
+  whole_beginning = both_refused s (take n s) (omega arith) (beginning_long s n long there old size new) old size new
 
 -- ---- the answer to the bytes that are there is the answer to the whole
 module _ (buffer : List ℕ) (size : ℕ) (old : List ℕ) (bytes : ℕ) (new : List ℕ) where

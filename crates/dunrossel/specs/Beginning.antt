@@ -21,21 +21,15 @@ too_long : (s : List ℕ) → longest_record < length s → (x : Numbers) → Ri
 too_long s h x p = omega (arith, right_short s x p)
 
 -- two inputs that are both too long have one answer
-both_refused : (s t : List ℕ) → longest_record < length s → longest_record < length t → (old : List ℕ) (size : ℕ) (new : List ℕ)
+pub both_refused : (s t : List ℕ) → longest_record < length s → longest_record < length t → (old : List ℕ) (size : ℕ) (new : List ℕ)
     → BenchOutcome s old size new
     → BenchOutcome t old size new
 both_refused s t l m old size new (Rung.given p h e) = Rung.given p (too_long t m, h.1) e
 both_refused s t l m old size new (Rung.passed n x) = absurd (too_long s l x.numbers x.right)
 
 module _ (s : List ℕ) (n : ℕ) (long : longest_record < n) (there : n ≤ length s) (old : List ℕ) (size : ℕ) (new : List ℕ) where
-  beginning_long : longest_record < length (take n s)
+  pub beginning_long : longest_record < length (take n s)
   beginning_long = omega (arith, length-take n s)
-
-  pub beginning_whole : BenchOutcome (take n s) old size new → BenchOutcome s old size new
-  beginning_whole = both_refused (take n s) s beginning_long (omega arith) old size new
-
-  pub whole_beginning : BenchOutcome s old size new → BenchOutcome (take n s) old size new
-  whole_beginning = both_refused s (take n s) (omega arith) beginning_long old size new
 
 -- the bytes that are there may be all of the input, so that some input always begins so
 pub begins_itself : (buffer : List ℕ) (size : ℕ) → size ≤ length buffer → Begins (take size buffer) buffer size
