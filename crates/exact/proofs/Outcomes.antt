@@ -4,3 +4,4 @@ pub mod Places
 pub mod Checked
 pub mod Endings
 pub mod Lent
+pub mod Handed

@@ -12,5 +12,6 @@ pub mod Endings
 pub mod Record
 pub mod Text
 pub mod Outcome
+pub mod Handed
 pub mod Lent
 pub mod Refusals

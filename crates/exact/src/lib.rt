@@ -3,6 +3,7 @@
 
 ghost use Rattle.std.specs.Prelude.{◌≡◌, ◌&&◌, length};
 ghost use Rattle.exact.specs.Meaning.Limits.{enough};
+ghost use Rattle.exact.specs.Meaning.Handed.{number, place};
 
 // A word's letters, and a reading's syllables.
 pub const LONGEST: usize = 4096;
@@ -38,6 +39,57 @@ pub const PHASE: u8 = 10;
 pub const SLOT: u8 = 17;
 
 pub const FULL: u8 = 18;
+
+// A refusal (docs/SCOPE.md, Refusals), with its place where it names one.
+#[derive(Clone, Copy, PartialEq, Eq)]
+pub enum Refusal {
+    Long,
+    Letter(usize),
+    Exponent,
+    Coefficient,
+    Unitary,
+    Deep(usize),
+    Room,
+    Record,
+    Statement(usize),
+    Phase(usize),
+    Slot,
+    Full,
+}
+
+impl Refusal {
+    pub fn number(self) -> u8
+        ensures { result ≡ number self }
+    {
+        match self {
+            Refusal::Long => LONG,
+            Refusal::Letter(_) => LETTER,
+            Refusal::Exponent => EXPONENT,
+            Refusal::Coefficient => COEFFICIENT,
+            Refusal::Unitary => UNITARY,
+            Refusal::Deep(_) => DEEP,
+            Refusal::Room => ROOM,
+            Refusal::Record => RECORD,
+            Refusal::Statement(_) => STATEMENT,
+            Refusal::Phase(_) => PHASE,
+            Refusal::Slot => SLOT,
+            Refusal::Full => FULL,
+        }
+    }
+
+    // 0 where it names none.
+    pub fn place(self) -> usize
+        ensures { result ≡ place self }
+    {
+        match self {
+            Refusal::Letter(at) => at,
+            Refusal::Deep(at) => at,
+            Refusal::Statement(at) => at,
+            Refusal::Phase(at) => at,
+            _ => 0,
+        }
+    }
+}
 
 // Zeros, as many as are always enough, for a synthesised word.
 pub fn word_buffer() -> [u8; ENOUGH]

@@ -20,6 +20,15 @@ pub struct ZOmega {
     pub d: i64,
 }
 
+// A triple (z, w, n) with exponent k, as it is handed in: any numbers.
+#[derive(Clone, Copy)]
+pub struct Triple {
+    pub k: i64,
+    pub n: u8,
+    pub z: ZOmega,
+    pub w: ZOmega,
+}
+
 // Of either sign, by the lowest bit.
 pub fn odd(x: i64) -> bool
     ensures { result ≡ Meaning.odd x }
