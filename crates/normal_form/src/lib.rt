@@ -3,10 +3,10 @@
 
 ghost use Rattle.std.specs.Prelude.{◌≡◌, ◌≤◌, length};
 ghost use Rattle.reading.specs.Held.{Blank, Readable};
-ghost use Rattle.reading.specs.Steps.{Right};
 ghost use Rattle.normal_form.specs.Meaning.{refused, WordOutcome, NormaliseOutcome, PhaseFreeOutcome};
 ghost use Rattle.normal_form.specs.Answers.{Answers, WritesReading};
 
+use reading::table::Table;
 use reading::{EMPTY, Read, Reading};
 use table::TABLE;
 
@@ -22,10 +22,8 @@ pub struct Written {
 }
 
 // The reader's table, each part of it right.
-pub fn reader_table() -> [u8; 665]
-    ensures { Right result }
-{
-    TABLE
+pub fn reader_table() -> Table<'static> {
+    Table { bytes: &TABLE }
 }
 
 fn refused(number: u8, place: usize) -> Written
@@ -40,10 +38,9 @@ fn refused(number: u8, place: usize) -> Written
 }
 
 // The word of a reading, if there is room for it: its length and its T letters are known before a byte is written.
-fn write(table: &[u8], items: &[u8], r: Reading, phase: bool, buf: &mut [u8]) -> Written
-    requires fact_1 { Right table.now }
-    requires fact_2 { Readable items.now r }
-    requires fact_3 { r.count ≤ 4096 }
+fn write(table: Table, items: &[u8], r: Reading, phase: bool, buf: &mut [u8]) -> Written
+    requires readable { Readable items.now r }
+    requires count_few { r.count ≤ 4096 }
     ensures { WritesReading phase items.now r buf.old result buf.new }
 {
     let tail = r.tail;
@@ -65,15 +62,14 @@ fn write(table: &[u8], items: &[u8], r: Reading, phase: bool, buf: &mut [u8]) ->
 
 // The answer to a word, by way of an empty array with a place for each letter.
 fn read_and_write(
-    table: &[u8],
+    table: Table,
     items: &mut [u8],
     word: &[u8],
     phase: bool,
     buf: &mut [u8],
 ) -> Written
-    requires fact_1 { Right table.now }
-    requires fact_2 { Blank items.old }
-    requires fact_3 { (length word.now ≤ 4096) × (length word.now ≤ length items.old) }
+    requires blank { Blank items.old }
+    requires places { (length word.now ≤ 4096) × (length word.now ≤ length items.old) }
     ensures { WordOutcome (Answers phase) word.now buf.old result buf.new }
 {
     match reading::read_word(table, items, word) {
@@ -91,7 +87,7 @@ fn answer(word: &[u8], phase: bool, buf: &mut [u8]) -> Written
     }
     let table = reader_table();
     let mut items = [EMPTY; 4096];
-    read_and_write(&table, &mut items, word, phase, buf)
+    read_and_write(table, &mut items, word, phase, buf)
 }
 
 // Job 3: the normal word with the word's matrix.

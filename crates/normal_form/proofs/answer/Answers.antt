@@ -8,4 +8,4 @@ pub returns-then-word-gt-LONGEST : goal.returns-then-word-gt-LONGEST
 returns-then-word-gt-LONGEST c = too_long _ _ _ _ (search rules) (search rules)
 
 pub read_and_write-requires : goal.read_and_write-requires
-read_and_write-requires c = record { fact_1 = search rules; fact_2 = blank_by _ tt; fact_3 = (search rules, search rules) }
+read_and_write-requires c = record { blank = blank_by _ tt; places = (search rules, search rules) }
