@@ -3,11 +3,11 @@
 
 ghost use Rattle.std.specs.Prelude.{◌≡◌, ◌≤◌, length};
 ghost use Rattle.reading.specs.Held.{Blank, Readable};
-ghost use Rattle.reading.specs.Steps.{Right};
 ghost use Rattle.normal_form.specs.Meaning.{written, WordOutcome, NormaliseOutcome, PhaseFreeOutcome};
 ghost use Rattle.normal_form.specs.Answers.{Answers, WritesReading};
 
 use exact::Refusal;
+use reading::table::Table;
 use reading::{EMPTY, Read, Reading};
 use table::TABLE;
 
@@ -21,23 +21,20 @@ pub struct Counts {
 }
 
 // The reader's table, each part of it right.
-pub fn reader_table() -> [u8; 665]
-    ensures { Right result }
-{
-    TABLE
+pub fn reader_table() -> Table<'static> {
+    Table { bytes: &TABLE }
 }
 
 // The word of a reading, if there is room for it: its length and its T letters are known before a byte is written.
 fn write(
-    table: &[u8],
+    table: Table,
     items: &[u8],
     r: Reading,
     phase: bool,
     buf: &mut [u8],
 ) -> Result<Counts, Refusal>
-    requires fact_1 { Right table.now }
-    requires fact_2 { Readable items.now r }
-    requires fact_3 { r.count ≤ 4096 }
+    requires readable { Readable items.now r }
+    requires count_few { r.count ≤ 4096 }
     ensures { WritesReading phase items.now r buf.old (written result) buf.new }
 {
     let e = writing::ending_of(table, r.tail, phase);
@@ -55,15 +52,14 @@ fn write(
 
 // The answer to a word, by way of an empty array with a place for each letter.
 fn read_and_write(
-    table: &[u8],
+    table: Table,
     items: &mut [u8],
     word: &[u8],
     phase: bool,
     buf: &mut [u8],
 ) -> Result<Counts, Refusal>
-    requires fact_1 { Right table.now }
-    requires fact_2 { Blank items.old }
-    requires fact_3 { (length word.now ≤ 4096) × (length word.now ≤ length items.old) }
+    requires blank { Blank items.old }
+    requires places { (length word.now ≤ 4096) × (length word.now ≤ length items.old) }
     ensures { WordOutcome (Answers phase) word.now buf.old (written result) buf.new }
 {
     match reading::read_word(table, items, word) {
@@ -80,7 +76,7 @@ fn answer(word: &[u8], phase: bool, buf: &mut [u8]) -> Result<Counts, Refusal>
         return Err(Refusal::Long);
     }
     let mut items = [EMPTY; exact::LONGEST];
-    read_and_write(&reader_table(), &mut items, word, phase, buf)
+    read_and_write(reader_table(), &mut items, word, phase, buf)
 }
 
 // Job 3: the normal word with the word's matrix.

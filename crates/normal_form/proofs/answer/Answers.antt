@@ -6,5 +6,5 @@ use Rattle.normal_form.proofs.answer.Goals as goal
 pub returns-then-word-gt-LONGEST : goal.returns-then-word-gt-LONGEST
 returns-then-word-gt-LONGEST c = search too_long
 
-pub read_and_write-requires-clause-fact_2 : goal.read_and_write-requires-clause-fact_2
-read_and_write-requires-clause-fact_2 c = blank_by _ tt
+pub read_and_write-requires-clause-blank : goal.read_and_write-requires-clause-blank
+read_and_write-requires-clause-blank c = blank_by _ tt
