@@ -7,7 +7,7 @@ ghost use Rattle.normal_form.specs.Meaning.{refused, WordOutcome, NormaliseOutco
 ghost use Rattle.normal_form.specs.Answers.{Answers, WritesReading};
 
 use reading::table::Table;
-use reading::{EMPTY, Read, Reading};
+use reading::{EMPTY, Reading};
 use table::TABLE;
 
 mod table;
@@ -73,8 +73,8 @@ fn read_and_write(
     ensures { WordOutcome (Answers phase) word.now buf.old result buf.new }
 {
     match reading::read_word(table, items, word) {
-        Read::Outside(place) => refused(exact::LETTER, place),
-        Read::Word(r) => write(table, items, r, phase, buf),
+        Err(e) => refused(e.number(), e.place()),
+        Ok(r) => write(table, items, r, phase, buf),
     }
 }
 
