@@ -1,5 +1,5 @@
 -- Numbers in a row: a blank before each.
-use Rattle.std.specs.Prelude.{ℕ, List, [], ◌∷◌, Option, Some, None}
+use Rattle.std.specs.Prelude.{ℕ, List, [], ◌∷◌, Option, Some}
 use Rattle.std.specs.Fmt.{◌++?◌}
 
 -- it says nothing where one of them has no text

@@ -1,8 +1,6 @@
 -- One more number was written.
-use Rattle.std.proofs.Common.{◌≡◌, sym, ap, subst, get_or, take, ◌∷◌, [], ◌++◌, List, IfSome}
+use Rattle.std.proofs.Common.{take}
 use Rattle.std.proofs.lemmas.List.{take_more}
-use Rattle.std.specs.Io.KnownBytes.{Appends}
-use Rattle.shown.specs.Row.{row}
 use Rattle.shown.proofs.Grown.{grown}
 use Rattle.shown.proofs.numbers.Goals as goal
 
