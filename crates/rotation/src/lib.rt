@@ -64,7 +64,7 @@ fn worked_out(k: u8, n: u8, z: ZOmega, w: ZOmega) -> Rotation
 pub fn rotate(k: i64, n: u8, z: ZOmega, w: ZOmega) -> Answer
     ensures { RotationOutcome k n z w result }
 {
-    let refusal = unitary::check(k, z, w);
+    let refusal = unitary::check_number(k, z, w);
     if refusal != exact::ACCEPTED {
         let none = nothing();
         return Answer {
@@ -85,7 +85,7 @@ pub fn rotate(k: i64, n: u8, z: ZOmega, w: ZOmega) -> Answer
 pub fn t_count(k: i64, n: u8, z: ZOmega, w: ZOmega) -> Count
     ensures { CountOutcome k n z w result }
 {
-    let refusal = unitary::check(k, z, w);
+    let refusal = unitary::check_number(k, z, w);
     if refusal != exact::ACCEPTED {
         return Count {
             refusal: refusal,

@@ -272,7 +272,7 @@ fn answer(t: DOmegaUnitary, buf: &mut [u8]) -> Synthesis
 pub fn synthesise(k: i64, n: u8, z: ZOmega, w: ZOmega, buf: &mut [u8]) -> Synthesis
     ensures { SynthesiseOutcome k n z w buf.old result buf.new }
 {
-    let refusal = unitary::check(k, z, w);
+    let refusal = unitary::check_number(k, z, w);
     if refusal != exact::ACCEPTED {
         return refused(refusal);
     }

@@ -17,12 +17,14 @@ ghost use Rattle.ring.specs.Meaning.{quad};
 ghost use Rattle.ring.specs.Number.{Small};
 ghost use Rattle.unitary.specs.Meaning.{triple, none, Answers, ReduceOutcome, stopped, MatrixOutcome};
 ghost use Rattle.exact.specs.Meaning.Outcome.{Decides};
+ghost use Rattle.exact.specs.Meaning.Handed.{checked};
 ghost use Rattle.unitary.specs.Checks.{UnitaryAt, CheckOutcome, both_test};
 ghost use Rattle.unitary.specs.Letters.{Scanned};
 ghost use Rattle.unitary.specs.Acts.{Good, Acted, turned_back};
 ghost use Rattle.unitary.specs.Reducing.{Twos, OnceMore};
 
-use ring::ZOmega;
+use exact::Refusal;
+use ring::{Triple, ZOmega};
 
 #[derive(Clone, Copy)]
 pub struct DOmegaUnitary {
@@ -101,26 +103,36 @@ fn is_unitary(k: u8, z: ZOmega, w: ZOmega) -> bool
     z_crosses == wanted
 }
 
-// Refusals 3, 4 and 5 in that order, or 0.
-pub fn check(k: i64, z: ZOmega, w: ZOmega) -> u8
+// Refusals 3, 4 and 5 in that order.
+pub fn check(t: Triple) -> Result<(), Refusal>
+    ensures { CheckOutcome t.k t.z t.w (checked result) }
+{
+    if t.k < 0 {
+        return Err(Refusal::Exponent);
+    }
+    if t.k > exact::DEEPEST {
+        return Err(Refusal::Exponent);
+    }
+    if !within_limits(t.z) {
+        return Err(Refusal::Coefficient);
+    }
+    if !within_limits(t.w) {
+        return Err(Refusal::Coefficient);
+    }
+    if !is_unitary(t.k as u8, t.z, t.w) {
+        return Err(Refusal::Unitary);
+    }
+    Ok(())
+}
+
+// The refusal by its number, or 0.
+pub fn check_number(k: i64, z: ZOmega, w: ZOmega) -> u8
     ensures { CheckOutcome k z w result }
 {
-    if k < 0 {
-        return exact::EXPONENT;
+    match check(Triple { k, n: 0, z, w }) {
+        Ok(()) => exact::ACCEPTED,
+        Err(refusal) => refusal.number(),
     }
-    if k > exact::DEEPEST {
-        return exact::EXPONENT;
-    }
-    if !within_limits(z) {
-        return exact::COEFFICIENT;
-    }
-    if !within_limits(w) {
-        return exact::COEFFICIENT;
-    }
-    if !is_unitary(k as u8, z, w) {
-        return exact::UNITARY;
-    }
-    exact::ACCEPTED
 }
 
 // ---- triples
@@ -417,7 +429,7 @@ impl DOmegaUnitary {
 pub fn reduce(k: i64, n: u8, z: ZOmega, w: ZOmega) -> Checked
     ensures { ReduceOutcome k n z w result }
 {
-    let refusal = check(k, z, w);
+    let refusal = check_number(k, z, w);
     if refusal != exact::ACCEPTED {
         let matrix = nothing();
         return Checked {

@@ -8,7 +8,7 @@ pub returns-then-refusal-ne-ACCEPTED : goal.returns-then-refusal-ne-ACCEPTED
 returns-then-refusal-ne-ACCEPTED c = search count_refused
 
 pub overflow_cast-k : goal.overflow_cast-k
-overflow_cast-k c = taken_cast c.ranges.k c.check-refusal.ensures (search rules)
+overflow_cast-k c = taken_cast c.ranges.k c.check_number-refusal.ensures (search rules)
 
 pub worked_out-r-requires : goal.worked_out-r-requires
 worked_out-r-requires c = record { fact_1 = search taken_few; fact_2 = search taken_unitary }
