@@ -8,7 +8,7 @@ use Rattle.exact.specs.Meaning.Lent.{Lent, lent, over, untouched}
 use Rattle.exact.proofs.Cases.Letters.{bytes_length}
 use Rattle.exact.proofs.Outcomes.Ladder.{answered, always}
 use Rattle.exact.proofs.Outcomes.Lent.{written_there}
-use Rattle.unitary.specs.declared.FromGates.{FromGates}
+use Rattle.unitary.specs.Meaning.{FromGates}
 use Rattle.normal_form.specs.declared.Written.{Written}
 use Rattle.normal_form.specs.Meaning as Job3
 use Rattle.normal_form.specs.Meaning.{Normalises, WordOutcome, NormaliseOutcome, word_refusals}

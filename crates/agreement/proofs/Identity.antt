@@ -9,7 +9,7 @@ use Rattle.exact.specs.Meaning.Limits.{longest}
 use Rattle.exact.specs.Meaning.Lent.{Lent}
 use Rattle.exact.proofs.Matrices.Same.{Same-sym}
 use Rattle.exact.proofs.Matrices.Least.{least_same}
-use Rattle.unitary.specs.declared.FromGates.{FromGates}
+use Rattle.unitary.specs.Meaning.{FromGates}
 use Rattle.normal_form.specs.declared.Written.{Written}
 use Rattle.normal_form.specs.Identity.{I_nothing}
 use Rattle.synthesis_of_clifford_t.specs.declared.Synthesis.{Synthesis}

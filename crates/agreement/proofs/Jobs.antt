@@ -21,8 +21,7 @@ use Rattle.exact.proofs.Outcomes.Lent.{text_there}
 use Rattle.exact.proofs.Outcomes.Places.{not_both, of_bytes}
 use Rattle.exact.proofs.Outcomes.Checked.{Taken, taken_checks}
 use Rattle.ring.specs.Meaning.{quad}
-use Rattle.unitary.specs.declared.FromGates.{FromGates}
-use Rattle.unitary.specs.Meaning.{triple, Answers, stopped, Multiplies, MatrixOutcome}
+use Rattle.unitary.specs.Meaning.{FromGates, triple, Answers, stopped, Multiplies, MatrixOutcome}
 use Rattle.normal_form.specs.declared.Written.{Written}
 use Rattle.normal_form.specs.Meaning as Job3
 use Rattle.normal_form.specs.Meaning.{Normalises, NormaliseOutcome, word_refusals}

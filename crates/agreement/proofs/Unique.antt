@@ -5,7 +5,7 @@ use Rattle.exact.specs.Meaning.Outcome.{none, ◌then◌, HandsOn, Decides}
 use Rattle.exact.specs.Meaning.Lent.{lent, untouched}
 use Rattle.exact.proofs.Outcomes.Ladder.{Only, one_outcome, one_handed}
 use Rattle.exact.proofs.Outcomes.Lent.{handed_same, bytes_same}
-use Rattle.unitary.specs.declared.FromGates.{FromGates}
+use Rattle.unitary.specs.Meaning.{FromGates}
 use Rattle.unitary.specs.Unique.{matrix_unique}
 use Rattle.normal_form.specs.declared.Written.{Written}
 use Rattle.normal_form.specs.Meaning as Job3

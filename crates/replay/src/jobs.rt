@@ -5,7 +5,7 @@ use clifford::{Axis, Clifford};
 use normal_form::Written;
 use qasm::Edition;
 use record::Record;
-use ring::ZOmega;
+use ring::{Triple, ZOmega};
 use root_two::{Root, Vect};
 use shown::{number, text};
 use std::io;
@@ -46,21 +46,46 @@ fn w_of(r: Record) -> ZOmega {
     }
 }
 
+// The numbers of a refused matrix.
+fn and_zeros<W: Write>(out: &mut W) -> io::Result<()> {
+    for _ in 0..10 {
+        and_number(out, 0)?;
+    }
+    Ok(())
+}
+
 fn reduce<W: Write>(out: &mut W, r: Record) -> io::Result<()> {
-    let k = r.k;
-    let n = r.n;
-    let answer = unitary::reduce(k, n, z_of(r), w_of(r));
-    let matrix = answer.matrix;
-    number(out, answer.refusal as u64)?;
-    and_matrix(out, matrix)
+    let triple = Triple {
+        k: r.k,
+        n: r.n,
+        z: z_of(r),
+        w: w_of(r),
+    };
+    match unitary::reduce(triple) {
+        Ok(matrix) => {
+            number(out, 0)?;
+            and_matrix(out, matrix)
+        }
+        Err(refusal) => {
+            number(out, refusal.number() as u64)?;
+            and_zeros(out)
+        }
+    }
 }
 
 fn from_gates<W: Write>(out: &mut W, word: &[u8]) -> io::Result<()> {
-    let answer = unitary::from_gates(word);
-    let matrix = answer.matrix;
-    number(out, answer.refusal as u64)?;
-    and_number(out, answer.place as u64)?;
-    and_matrix(out, matrix)
+    match unitary::from_gates(word) {
+        Ok(matrix) => {
+            number(out, 0)?;
+            and_number(out, 0)?;
+            and_matrix(out, matrix)
+        }
+        Err(refusal) => {
+            number(out, refusal.number() as u64)?;
+            and_number(out, refusal.place() as u64)?;
+            and_zeros(out)
+        }
+    }
 }
 
 fn counts<W: Write>(out: &mut W, answer: Written) -> io::Result<()> {

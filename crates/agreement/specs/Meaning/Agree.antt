@@ -3,8 +3,7 @@ use Rattle.std.specs.Prelude.{◌≡◌, List, ℕ, take}
 use Rattle.exact.specs.Meaning.Limits.{no_refusal}
 use Rattle.exact.specs.Meaning.Outcome.{Refusal, Outcome, none, ◌then◌, HandsOn, Decides}
 use Rattle.exact.specs.Meaning.Lent.{Lent, lent, untouched}
-use Rattle.unitary.specs.declared.FromGates.{FromGates}
-use Rattle.unitary.specs.Meaning.{MatrixOutcome}
+use Rattle.unitary.specs.Meaning.{FromGates, MatrixOutcome}
 use Rattle.normal_form.specs.declared.Written.{Written}
 use Rattle.normal_form.specs.Meaning as Job3
 use Rattle.normal_form.specs.Meaning.{NormaliseOutcome}

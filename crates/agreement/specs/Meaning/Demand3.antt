@@ -6,8 +6,7 @@ use Rattle.exact.specs.Meaning.Normal.{Normal}
 use Rattle.exact.specs.Meaning.Endings.{AllShallow}
 use Rattle.exact.specs.Meaning.Limits.{longest, enough, no_refusal}
 use Rattle.exact.specs.Meaning.Lent.{Lent, lent, over}
-use Rattle.unitary.specs.declared.FromGates.{FromGates}
-use Rattle.unitary.specs.Meaning.{MatrixOutcome}
+use Rattle.unitary.specs.Meaning.{FromGates, MatrixOutcome}
 use Rattle.normal_form.specs.declared.Written.{Written}
 use Rattle.normal_form.specs.Meaning as Job3
 use Rattle.normal_form.specs.Meaning.{NormaliseOutcome}

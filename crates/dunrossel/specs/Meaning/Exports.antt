@@ -3,9 +3,7 @@ use Rattle.std.specs.Prelude.{List, ℕ, Float, ℤ, pos, get_or}
 use Rattle.exact.specs.Meaning.Outcome.{HandsOn}
 use Rattle.exact.specs.Meaning.Word.{Letter}
 use Rattle.exact.specs.Meaning.Lent.{Lent}
-use Rattle.unitary.specs.declared.Checked.{Checked}
-use Rattle.unitary.specs.declared.FromGates.{FromGates}
-use Rattle.unitary.specs.Meaning.{ReduceOutcome, MatrixOutcome}
+use Rattle.unitary.specs.Meaning.{Checked, FromGates, ReduceOutcome, MatrixOutcome}
 use Rattle.normal_form.specs.declared.Written.{Written}
 use Rattle.normal_form.specs.Meaning.{WordOutcome}
 use Rattle.clifford.specs.Meaning.{reduced, Product, Inverse, Split}
