@@ -1,5 +1,4 @@
 // A job on a payload, and its answer in text.
-use crate::line::{and_number, and_signed, and_text};
 use crate::slots;
 use clifford::{Axis, Clifford};
 use normal_form::Written;
@@ -7,25 +6,19 @@ use qasm::Edition;
 use record::Record;
 use ring::ZOmega;
 use root_two::{Root, Vect};
-use shown::{number, text};
+use shown::{numbers, text};
 use std::io;
 use std::io::Write;
 use unitary::DOmegaUnitary;
 
-fn and_ring<W: Write>(out: &mut W, x: ZOmega) -> io::Result<()> {
-    and_signed(out, x.a)?;
-    and_signed(out, x.b)?;
-    and_signed(out, x.c)?;
-    and_signed(out, x.d)
+fn ring<W: Write>(out: &mut W, x: ZOmega) -> io::Result<()> {
+    numbers(out, &[x.a, x.b, x.c, x.d])
 }
 
-fn and_matrix<W: Write>(out: &mut W, t: DOmegaUnitary) -> io::Result<()> {
-    let z = t.z;
-    let w = t.w;
-    and_number(out, t.k as u64)?;
-    and_number(out, t.n as u64)?;
-    and_ring(out, z)?;
-    and_ring(out, w)
+fn matrix<W: Write>(out: &mut W, t: DOmegaUnitary) -> io::Result<()> {
+    numbers(out, &[t.k, t.n])?;
+    ring(out, t.z)?;
+    ring(out, t.w)
 }
 
 fn z_of(r: Record) -> ZOmega {
@@ -47,40 +40,30 @@ fn w_of(r: Record) -> ZOmega {
 }
 
 fn reduce<W: Write>(out: &mut W, r: Record) -> io::Result<()> {
-    let k = r.k;
-    let n = r.n;
-    let answer = unitary::reduce(k, n, z_of(r), w_of(r));
-    let matrix = answer.matrix;
-    number(out, answer.refusal as u64)?;
-    and_matrix(out, matrix)
+    let answer = unitary::reduce(r.k, r.n, z_of(r), w_of(r));
+    write!(out, "{}", answer.refusal)?;
+    matrix(out, answer.matrix)
 }
 
 fn from_gates<W: Write>(out: &mut W, word: &[u8]) -> io::Result<()> {
     let answer = unitary::from_gates(word);
-    let matrix = answer.matrix;
-    number(out, answer.refusal as u64)?;
-    and_number(out, answer.place as u64)?;
-    and_matrix(out, matrix)
-}
-
-fn counts<W: Write>(out: &mut W, answer: Written) -> io::Result<()> {
-    number(out, answer.refusal as u64)?;
-    and_number(out, answer.place as u64)?;
-    and_number(out, answer.bytes as u64)?;
-    and_number(out, answer.tees as u64)
+    write!(out, "{} {}", answer.refusal, answer.place)?;
+    matrix(out, answer.matrix)
 }
 
 // The whole lent buffer stands behind the counts.
 fn written<W: Write>(out: &mut W, answer: Written, lent: &[u8]) -> io::Result<()> {
-    counts(out, answer)?;
-    and_text(out, lent)
+    write!(
+        out,
+        "{} {} {} {} ",
+        answer.refusal, answer.place, answer.bytes, answer.tees
+    )?;
+    text(out, lent)
 }
 
 fn circuit<W: Write>(out: &mut W, answer: qasm::Written, lent: &[u8]) -> io::Result<()> {
-    number(out, answer.refusal as u64)?;
-    and_number(out, answer.place as u64)?;
-    and_number(out, answer.bytes as u64)?;
-    and_text(out, lent)
+    write!(out, "{} {} {} ", answer.refusal, answer.place, answer.bytes)?;
+    text(out, lent)
 }
 
 fn write_circuit<W: Write>(
@@ -109,67 +92,41 @@ fn phase_free<W: Write>(out: &mut W, word: &[u8], lent: &mut [u8]) -> io::Result
 }
 
 fn synthesise<W: Write>(out: &mut W, r: Record, lent: &mut [u8]) -> io::Result<()> {
-    let k = r.k;
-    let n = r.n;
-    let answer = synthesis_of_clifford_t::synthesise(k, n, z_of(r), w_of(r), lent);
-    counts(
+    let answer = synthesis_of_clifford_t::synthesise(r.k, r.n, z_of(r), w_of(r), lent);
+    write!(
         out,
-        Written {
-            refusal: answer.refusal,
-            place: 0,
-            bytes: answer.bytes,
-            tees: answer.tees,
-        },
+        "{} 0 {} {} {} ",
+        answer.refusal, answer.bytes, answer.tees, answer.steps
     )?;
-    and_number(out, answer.steps as u64)?;
-    and_text(out, lent)
+    text(out, lent)
 }
 
 fn t_count<W: Write>(out: &mut W, r: Record) -> io::Result<()> {
-    let k = r.k;
-    let n = r.n;
-    let answer = rotation::t_count(k, n, z_of(r), w_of(r));
-    number(out, answer.refusal as u64)?;
-    and_number(out, answer.tees as u64)
+    let answer = rotation::t_count(r.k, r.n, z_of(r), w_of(r));
+    write!(out, "{} {}", answer.refusal, answer.tees)
 }
 
-fn and_root<W: Write>(out: &mut W, x: Root) -> io::Result<()> {
-    and_signed(out, x.p)?;
-    and_signed(out, x.q)
-}
-
-fn and_row<W: Write>(out: &mut W, x: Root, y: Root, z: Root) -> io::Result<()> {
-    and_root(out, x)?;
-    and_root(out, y)?;
-    and_root(out, z)
+fn row<W: Write>(out: &mut W, x: Root, y: Root, z: Root) -> io::Result<()> {
+    numbers(out, &[x.p, x.q, y.p, y.q, z.p, z.q])
 }
 
 // The three columns, row by row.
-fn and_rows<W: Write>(out: &mut W, x: Vect, y: Vect, z: Vect) -> io::Result<()> {
-    and_row(out, x.x, y.x, z.x)?;
-    and_row(out, x.y, y.y, z.y)?;
-    and_row(out, x.z, y.z, z.z)
+fn rows<W: Write>(out: &mut W, x: Vect, y: Vect, z: Vect) -> io::Result<()> {
+    row(out, x.x, y.x, z.x)?;
+    row(out, x.y, y.y, z.y)?;
+    row(out, x.z, y.z, z.z)
 }
 
 fn rotate<W: Write>(out: &mut W, r: Record) -> io::Result<()> {
-    let k = r.k;
-    let n = r.n;
-    let answer = rotation::rotate(k, n, z_of(r), w_of(r));
+    let answer = rotation::rotate(r.k, r.n, z_of(r), w_of(r));
     let rotation = answer.rotation;
-    number(out, answer.refusal as u64)?;
-    and_number(out, rotation.e as u64)?;
-    and_rows(out, rotation.x, rotation.y, rotation.z)
+    write!(out, "{} {}", answer.refusal, rotation.e)?;
+    rows(out, rotation.x, rotation.y, rotation.z)
 }
 
 // The oracle asks for Cliffords of i32 only.
 fn narrow(x: i64) -> i32 {
-    if x < -2147483648 {
-        return 0;
-    }
-    if x > 2147483647 {
-        return 0;
-    }
-    x as i32
+    i32::try_from(x).unwrap_or(0)
 }
 
 // Four numbers of a Clifford, as the record has them.
@@ -193,10 +150,7 @@ impl Four {
 }
 
 fn parts<W: Write>(out: &mut W, q: Clifford) -> io::Result<()> {
-    number(out, q.a as u64)?;
-    and_number(out, q.b as u64)?;
-    and_number(out, q.c as u64)?;
-    and_number(out, q.d as u64)
+    write!(out, "{} {} {} {}", q.a, q.b, q.c, q.d)
 }
 
 fn product<W: Write>(out: &mut W, r: Record) -> io::Result<()> {
@@ -226,8 +180,7 @@ fn coset<W: Write>(out: &mut W, r: Record) -> io::Result<()> {
     let split = clifford::clifford_split(x.a, x.b, x.c, x.d);
     let axis = split.axis;
     let rest = split.rest;
-    number(out, axis_number(axis))?;
-    text(out, b" ")?;
+    write!(out, "{} ", axis_number(axis))?;
     parts(out, rest)
 }
 
