@@ -13,13 +13,11 @@ use Rattle.ring.specs.declared.ZOmega.{ZOmega}
 use Rattle.ring.specs.declared.Triple.{Triple}
 use Rattle.unitary.specs.declared.DOmegaUnitary.{DOmegaUnitary}
 use Rattle.unitary.specs.Meaning.{none, ReduceOutcome, as_checked}
-use Rattle.normal_form.specs.declared.Written.{Written}
-use Rattle.normal_form.specs.Meaning.{WordOutcome}
+use Rattle.normal_form.specs.Meaning.{Written, WordOutcome}
 use Rattle.clifford.specs.Meaning.{reduced, Product, Inverse, Split}
 use Rattle.clifford.specs.declared.Clifford.{Clifford}
 use Rattle.clifford.specs.declared.Coset.{Coset}
-use Rattle.synthesis_of_clifford_t.specs.declared.Synthesis.{Synthesis}
-use Rattle.synthesis_of_clifford_t.specs.Meaning.{SynthesiseOutcome}
+use Rattle.synthesis_of_clifford_t.specs.Meaning.{Synthesis, SynthesiseOutcome}
 use Rattle.circuit.specs.Meaning.{Edition}
 use Rattle.qasm.specs.Meaning.{WriteOutcome, ReadOutcome}
 use Rattle.qasm.specs.declared.Written.{Written as Converted}
