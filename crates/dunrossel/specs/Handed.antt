@@ -13,21 +13,16 @@ use Rattle.ring.specs.declared.ZOmega.{ZOmega}
 use Rattle.ring.specs.declared.Triple.{Triple}
 use Rattle.unitary.specs.declared.DOmegaUnitary.{DOmegaUnitary}
 use Rattle.unitary.specs.Meaning.{none, Checked, ReduceOutcome, as_checked, FromGates, MatrixOutcome}
-use Rattle.normal_form.specs.declared.Written.{Written}
-use Rattle.normal_form.specs.Meaning.{WordOutcome}
+use Rattle.normal_form.specs.Meaning.{Written, WordOutcome}
 use Rattle.clifford.specs.Meaning.{reduced, Product, Inverse, Split}
 use Rattle.clifford.specs.declared.Clifford.{Clifford}
 use Rattle.clifford.specs.declared.Coset.{Coset}
-use Rattle.synthesis_of_clifford_t.specs.declared.Synthesis.{Synthesis}
-use Rattle.synthesis_of_clifford_t.specs.Meaning.{SynthesiseOutcome}
+use Rattle.synthesis_of_clifford_t.specs.Meaning.{Synthesis, SynthesiseOutcome}
 use Rattle.circuit.specs.Meaning.{Edition}
 use Rattle.qasm.specs.Meaning.{WriteOutcome, ReadOutcome}
 use Rattle.qasm.specs.declared.Written.{Written as Converted}
-use Rattle.view.specs.declared.Answer.{Answer}
-use Rattle.view.specs.Meaning.Outcome.{ViewOutcome}
-use Rattle.rotation.specs.declared.Answer.{Answer as Rotated}
-use Rattle.rotation.specs.declared.Count.{Count}
-use Rattle.rotation.specs.Meaning.{RotationOutcome, CountOutcome}
+use Rattle.view.specs.Meaning.Outcome.{Answer, ViewOutcome}
+use Rattle.rotation.specs.Meaning.{Answer as Rotated, Count, RotationOutcome, CountOutcome}
 use Rattle.handed.specs.declared.Four.{Four}
 use Rattle.dunrossel.specs.Meaning.Exports.{Reduces, Multiplies, Views, Counts, Rotates, Writes, Synthesises, Converts}
 use Rattle.dunrossel.specs.Meaning.Exports.{argument, Multiplied, Inverted, Parted}
@@ -85,6 +80,27 @@ module _ (k : ℤ) (n : ℕ) (zw : List ℤ) (fits : SFits w64 k) (t : Triple) (
         is = λ i. (f i, g i);
       }
 
+  -- r and out are what is handed back of j
+  pub views_as : (j : Answer) (r : ℕ) (out : List Float) → ViewOutcome t.k t.n t.z t.w j → r ≡ j.refusal → out ≡ eight_of j.view → Views k n zw (r, out)
+  views_as j r out o f e = record { job = j; outcome = given_in (λ k n z w. ViewOutcome k n z w j) o; is = λ i. (f i, e i) }
+
+  pub counts_tees_as : (j : Count) (r out : ℕ) → CountOutcome t.k t.n t.z t.w j → r ≡ j.refusal → out ≡ j.tees → Counts k n zw (r, out)
+  counts_tees_as j r out o f e = record { job = j; outcome = given_in (λ k n z w. CountOutcome k n z w j) o; is = λ i. (f i, e i) }
+
+  pub rotates_as : (j : Rotated) (r : ℕ) (out : List ℤ) → RotationOutcome t.k t.n t.z t.w j → r ≡ j.refusal → out ≡ nineteen_of j.rotation
+      → Rotates k n zw (r, out)
+  rotates_as j r out o f e = record { job = j; outcome = given_in (λ k n z w. RotationOutcome k n z w j) o; is = λ i. (f i, e i) }
+
+  pub synthesises_as : (numbers : Synthesis → List ℕ) (old new : List ℕ) (j : Synthesis) (r : ℕ) (out : List ℕ)
+      → SynthesiseOutcome t.k t.n t.z t.w old j new → r ≡ j.refusal → out ≡ numbers j
+      → Synthesises numbers k n zw old (r, (out, new))
+  synthesises_as numbers old new j r out o f g =
+      record {
+        job = lent j new;
+        outcome = given_in (λ k n z w. SynthesiseOutcome k n z w old j new) o;
+        is = λ i. (f i, (g i, new));
+      }
+
 -- ---- words
 pub multiplies : (w : List ℕ) (j : FromGates) (out : List ℤ) → MatrixOutcome w j → out ≡ ten j.matrix
     → Multiplies w (j.refusal, (out, j.place))
@@ -93,6 +109,11 @@ multiplies w j out o e = record { job = j; outcome = o; is = λ i. (j.refusal, (
 pub writes : (Answer : List Letter → List Letter → Type 0) (w old new : List ℕ) (j : Written) (out : List ℕ) → WordOutcome Answer w old j new
     → out ≡ counts j → Writes Answer w old (j.refusal, (out, new))
 writes Answer w old new j out o e = record { job = lent j new; outcome = o; is = λ i. (j.refusal, (e i, new)) }
+
+-- r and out are what is handed back of j
+pub writes_as : (Answer : List Letter → List Letter → Type 0) (w old new : List ℕ) (j : Written) (r : ℕ) (out : List ℕ)
+    → WordOutcome Answer w old j new → r ≡ j.refusal → out ≡ counts j → Writes Answer w old (r, (out, new))
+writes_as Answer w old new j r out o f g = record { job = lent j new; outcome = o; is = λ i. (f i, (g i, new)) }
 
 converts : (Job : Converted → List ℕ → Type 0) (new : List ℕ) (j : Converted) (out : List ℕ) → Job j new → out ≡ counts_in j
     → Converts Job (j.refusal, (out, new))

@@ -1,6 +1,8 @@
 // Ring numbers a·omega^3 + b·omega^2 + c·omega + d with 64-bit coefficients, after src/ring in the Rust.
 #![tactic(auto)]
 
+mod display;
+
 ghost use Rattle.std.specs.Prelude.{◌≡◌, ◌+◌, ◌^◌, ◌-◌, ◌≤◌, ◌<◌, T, nat_abs};
 ghost use Rattle.exact.specs.Meaning.Number.{Sized};
 ghost use Rattle.exact.specs.Meaning.Number.{ints, add_q, neg_q, mul_q, conj_q, omega', omega^, root2, root2^, bit, residue};
