@@ -12,7 +12,7 @@ use Rattle.exact.proofs.Whole.Machine.{held}
 use Rattle.ring.specs.declared.ZOmega.{ZOmega}
 use Rattle.ring.specs.declared.Triple.{Triple}
 use Rattle.unitary.specs.declared.DOmegaUnitary.{DOmegaUnitary}
-use Rattle.unitary.specs.Meaning.{none, ReduceOutcome, as_checked}
+use Rattle.unitary.specs.Meaning.{none, Checked, ReduceOutcome, as_checked, FromGates, MatrixOutcome}
 use Rattle.normal_form.specs.Meaning.{Written, WordOutcome}
 use Rattle.clifford.specs.Meaning.{reduced, Product, Inverse, Split}
 use Rattle.clifford.specs.declared.Clifford.{Clifford}
@@ -24,7 +24,7 @@ use Rattle.qasm.specs.declared.Written.{Written as Converted}
 use Rattle.view.specs.Meaning.Outcome.{Answer, ViewOutcome}
 use Rattle.rotation.specs.Meaning.{Answer as Rotated, Count, RotationOutcome, CountOutcome}
 use Rattle.handed.specs.declared.Four.{Four}
-use Rattle.dunrossel.specs.Meaning.Exports.{Reduces, Views, Counts, Rotates, Writes, Synthesises, Converts}
+use Rattle.dunrossel.specs.Meaning.Exports.{Reduces, Multiplies, Views, Counts, Rotates, Writes, Synthesises, Converts}
 use Rattle.dunrossel.specs.Meaning.Exports.{argument, Multiplied, Inverted, Parted}
 use Rattle.handed.specs.Meaning.{z_of, w_of, triple_of, ten, eight_of, nineteen_of, counts, counts_in, four_of, five_of, listed}
 use Rattle.handed.specs.Numbers.{held_small}
@@ -37,6 +37,9 @@ module _ (k : ℤ) {z w : ZOmega} (zw : List ℤ) (fits : SFits w64 k) (z_is : z
       (subst (λ x. Job (held w64 k) x (w_of zw)) z_is (subst (λ x. Job (held w64 k) z x) w_is h))
 
   module _ (n : ℕ) where
+    pub reduces : (j : Checked) (out : List ℤ) → ReduceOutcome (held w64 k) n z w j → out ≡ ten j.matrix → Reduces k n zw (j.refusal, out)
+    reduces j out o e = record { job = j; outcome = as_given (λ k z w. ReduceOutcome k n z w j) o; is = λ i. (j.refusal, e i) }
+
     pub synthesises : (numbers : Synthesis → List ℕ) (old new : List ℕ) (j : Synthesis) (out : List ℕ)
         → SynthesiseOutcome (held w64 k) n z w old j new
         → out ≡ numbers j
@@ -79,6 +82,10 @@ module _ (k : ℤ) (n : ℕ) (zw : List ℤ) (fits : SFits w64 k) (t : Triple) (
   rotates j r out o f e = record { job = j; outcome = given_in (λ k n z w. RotationOutcome k n z w j) o; is = λ i. (f i, e i) }
 
 -- ---- words
+pub multiplies : (w : List ℕ) (j : FromGates) (out : List ℤ) → MatrixOutcome w j → out ≡ ten j.matrix
+    → Multiplies w (j.refusal, (out, j.place))
+multiplies w j out o e = record { job = j; outcome = o; is = λ i. (j.refusal, (e i, j.place)) }
+
 pub writes : (Answer : List Letter → List Letter → Type 0) (w old new : List ℕ) (j : Written) (out : List ℕ) → WordOutcome Answer w old j new
     → out ≡ counts j → Writes Answer w old (j.refusal, (out, new))
 writes Answer w old new j out o e = record { job = lent j new; outcome = o; is = λ i. (j.refusal, (e i, new)) }
