@@ -40,16 +40,6 @@ module _ (k : ℤ) {z w : ZOmega} (zw : List ℤ) (fits : SFits w64 k) (z_is : z
     pub reduces : (j : Checked) (out : List ℤ) → ReduceOutcome (held w64 k) n z w j → out ≡ ten j.matrix → Reduces k n zw (j.refusal, out)
     reduces j out o e = record { job = j; outcome = as_given (λ k z w. ReduceOutcome k n z w j) o; is = λ i. (j.refusal, e i) }
 
-    pub views : (j : Answer) (out : List Float) → ViewOutcome (held w64 k) n z w j → out ≡ eight_of j.view → Views k n zw (j.refusal, out)
-    views j out o e = record { job = j; outcome = as_given (λ k z w. ViewOutcome k n z w j) o; is = λ i. (j.refusal, e i) }
-
-    pub counts_tees : (j : Count) (out : ℕ) → CountOutcome (held w64 k) n z w j → out ≡ j.tees → Counts k n zw (j.refusal, out)
-    counts_tees j out o e = record { job = j; outcome = as_given (λ k z w. CountOutcome k n z w j) o; is = λ i. (j.refusal, e i) }
-
-    pub rotates : (j : Rotated) (out : List ℤ) → RotationOutcome (held w64 k) n z w j → out ≡ nineteen_of j.rotation
-        → Rotates k n zw (j.refusal, out)
-    rotates j out o e = record { job = j; outcome = as_given (λ k z w. RotationOutcome k n z w j) o; is = λ i. (j.refusal, e i) }
-
     pub synthesises : (numbers : Synthesis → List ℕ) (old new : List ℕ) (j : Synthesis) (out : List ℕ)
         → SynthesiseOutcome (held w64 k) n z w old j new
         → out ≡ numbers j
