@@ -15,8 +15,7 @@ use Rattle.exact.proofs.Rotation.Laws.{word_rotation, rotation_word, rotation_mo
 use Rattle.exact.proofs.Rotation.Least.{normal_least}
 use Rattle.ring.specs.Meaning.{quad}
 use Rattle.ring.specs.declared.ZOmega.{ZOmega}
-use Rattle.synthesis_of_clifford_t.specs.declared.Synthesis.{Synthesis}
-use Rattle.synthesis_of_clifford_t.specs.Meaning.{text, refused, counts, SpellingOf, asked, SynthesiseOutcome}
+use Rattle.synthesis_of_clifford_t.specs.Meaning.{Synthesis, text, refused, counts, SpellingOf, asked, SynthesiseOutcome}
 use Rattle.synthesis_of_clifford_t.proofs.Enough.{answer_short}
 use Rattle.rotation.specs.declared.Count.{Count}
 use Rattle.rotation.specs.Meaning.{refused_count, AnswersCount, CountOutcome}

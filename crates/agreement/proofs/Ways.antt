@@ -7,11 +7,10 @@ use Rattle.exact.specs.Meaning.Outcome.{Rung, Decides}
 use Rattle.exact.specs.Meaning.Limits.{no_refusal}
 use Rattle.exact.specs.Meaning.Lent.{lent}
 use Rattle.exact.proofs.Whole.Parity.{false_true}
-use Rattle.unitary.specs.declared.FromGates.{FromGates}
+use Rattle.unitary.specs.Meaning.{FromGates}
 use Rattle.unitary.specs.Checks.{refutes}
-use Rattle.normal_form.specs.declared.Written.{Written}
-use Rattle.synthesis_of_clifford_t.specs.declared.Synthesis.{Synthesis}
-use Rattle.synthesis_of_clifford_t.specs.Meaning.{SynthesiseOutcome}
+use Rattle.normal_form.specs.Meaning.{Written}
+use Rattle.synthesis_of_clifford_t.specs.Meaning.{Synthesis, SynthesiseOutcome}
 use Rattle.agreement.specs.Meaning.Agree.{Second, Alike}
 
 -- ---- the second way

@@ -21,22 +21,33 @@ use ring::ZOmega;
 pub fn dunrossel_reduce(k: i64, n: u8, zw: &[i64; 8], out: &mut [i64; 10]) -> u8
     ensures { Reduces k n zw.now (result, out.new) }
 {
-    let z = handed::z_of(zw);
-    let w = handed::w_of(zw);
-    let answer = unitary::reduce(k, n, z, w);
-    let matrix = answer.matrix;
-    handed::put_ten(matrix, out);
-    answer.refusal
+    match unitary::reduce(handed::triple_of(k, n, zw)) {
+        Ok(matrix) => {
+            handed::put_ten(matrix, out);
+            exact::ACCEPTED
+        }
+        Err(refusal) => {
+            *out = [0; 10];
+            refusal.number()
+        }
+    }
 }
 
 pub fn dunrossel_matrix(word: &[u8], out: &mut [i64; 10], place: &mut u64) -> u8
     ensures { Multiplies word.now (result, (out.new, place.new)) }
 {
-    let answer = unitary::from_gates(word);
-    let matrix = answer.matrix;
-    handed::put_ten(matrix, out);
-    *place = answer.place as u64;
-    answer.refusal
+    match unitary::from_gates(word) {
+        Ok(matrix) => {
+            handed::put_ten(matrix, out);
+            *place = 0;
+            exact::ACCEPTED
+        }
+        Err(refusal) => {
+            *out = [0; 10];
+            *place = refusal.place() as u64;
+            refusal.number()
+        }
+    }
 }
 
 pub fn dunrossel_normalise(word: &[u8], buf: &mut [u8], out: &mut [u64; 3]) -> u8

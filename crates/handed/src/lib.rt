@@ -3,12 +3,12 @@
 
 ghost use Rattle.std.specs.Prelude.{◌≡◌};
 ghost use Rattle.clifford.specs.Meaning.{axis_number};
-ghost use Rattle.handed.specs.Meaning.{z_of, w_of, ten, eight_of, nineteen_of, counts, counts_of, steps_of, counts_in, four_of, five_of, listed};
+ghost use Rattle.handed.specs.Meaning.{z_of, w_of, triple_of, ten, eight_of, nineteen_of, counts, counts_of, steps_of, counts_in, four_of, five_of, listed};
 ghost use Rattle.handed.specs.Numbers.{Wide};
 
 use clifford::{Axis, Clifford, Coset};
 use normal_form::Written;
-use ring::ZOmega;
+use ring::{Triple, ZOmega};
 use rotation::Rotation;
 use synthesis_of_clifford_t::Synthesis;
 use unitary::DOmegaUnitary;
@@ -33,6 +33,17 @@ pub fn w_of(zw: &[i64; 8]) -> ZOmega
         b: zw[5],
         c: zw[6],
         d: zw[7],
+    }
+}
+
+pub fn triple_of(k: i64, n: u8, zw: &[i64; 8]) -> Triple
+    ensures { result ≡ triple_of k n zw.now }
+{
+    Triple {
+        k,
+        n,
+        z: z_of(zw),
+        w: w_of(zw),
     }
 }
 

@@ -21,8 +21,7 @@ use Rattle.writing.specs.declared.Ending.{Ending}
 use Rattle.writing.specs.Put.{Put, put_more}
 use Rattle.writing.specs.Endings.{end_word, end_size, ending_of, Ended, end_length, end_tees, text_of, text_is}
 use Rattle.writing.specs.Codes.{codes_word, held_word, bytes_append}
-use Rattle.normal_form.specs.declared.Written.{Written}
-use Rattle.normal_form.specs.Meaning.{Normalises, DropsPhase, refused, counts, WordOutcome}
+use Rattle.normal_form.specs.Meaning.{Written, Normalises, DropsPhase, refused, counts, WordOutcome}
 use Rattle.normal_form.specs.Unique.{normalises_single, drops_single}
 use Rattle.normal_form.specs.Ways.{RoomOutcome, outside_at, no_room, written_whole, answered_with}
 

@@ -5,7 +5,7 @@
 // of kinds: where nothing changes, where the T comes first or behind S, X or W, and behind H. For each two letters, by 6 first + second, two
 // bytes: their row and a phase, and where their row of kinds begins among the kinds. Last the numbers of the bytes from H to X: that of the
 // letter, and 6 where there is none.
-pub const TABLE: [u8; 665] = [
+pub static TABLE: [u8; 665] = [
     169, 112, 239, 116, 171, 182, 109, 50, 177, 96, 247, 100, 179, 166, 117, 34, 161, 104, 231,
     108, 163, 174, 101, 42, 1, 2, 3, 0, 5, 6, 7, 4, 9, 10, 11, 8, 13, 14, 15, 12, 17, 18, 19, 16,
     21, 22, 23, 20, 4, 71, 134, 197, 0, 67, 130, 193, 12, 79, 142, 205, 8, 75, 138, 201, 20, 87,

@@ -4,15 +4,17 @@
 ghost use Rattle.std.specs.Prelude.{◌≡◌, ◌+◌, ◌≤◌, ◌<◌, length};
 ghost use Rattle.exact.specs.Meaning.Outcome.{Decides};
 ghost use Rattle.reading.specs.Readings.{read};
-ghost use Rattle.reading.specs.Steps.{letter_at, Right, Fits, tail_of};
+ghost use Rattle.reading.specs.Steps.{letter_at, Fits, tail_of};
 ghost use Rattle.reading.specs.Syllables.{syllable_of};
 ghost use Rattle.reading.specs.Held.{Blank, Readable, Steps, Pushed, Popped, Placed, cancelled, by_kind, pair};
 ghost use Rattle.reading.specs.Texts.{whole_of, Few, ReadableText, AddsLetter};
 ghost use Rattle.reading.specs.Letters.{Reads};
 
-use crate::steps::{IDENTITY, Tail, number};
+use crate::steps::Tail;
+use crate::table::{IDENTITY, Table};
 
 pub mod steps;
+pub mod table;
 
 // The codes of no syllable and of T; a syllable's code is the number of its letters.
 pub const EMPTY: u8 = 0;
@@ -74,9 +76,8 @@ impl Syllable {
 }
 
 impl Reading {
-    pub fn whole(self, table: &[u8]) -> Text
-        requires table_right { Right table.now }
-        requires few { Few self }
+    pub fn whole(self, table: Table) -> Text
+        requires { Few self }
         ensures { result ≡ whole_of self }
     {
         let tail = self.tail;
@@ -117,11 +118,10 @@ fn pop(items: &mut [u8], r: Reading, code: u8, tail: Tail) -> Reading
 }
 
 // A T with nothing between it and the last syllable, and a Clifford behind it.
-fn cancel(table: &[u8], items: &mut [u8], r: Reading, rest: Tail) -> Reading
-    requires fact_1 { Right table.now }
-    requires fact_2 { Readable items.old r }
-    requires fact_3 { (0 < length items.old) × (r.count ≤ length items.old) × (r.count ≤ 4096) }
-    requires fact_4 { Fits rest }
+fn cancel(table: Table, items: &mut [u8], r: Reading, rest: Tail) -> Reading
+    requires readable { Readable items.old r }
+    requires places { (0 < length items.old) × (r.count ≤ length items.old) × (r.count ≤ 4096) }
+    requires rest_fits { Fits rest }
     ensures { Steps (cancelled (tail_of rest)) items.old r items.new result }
 {
     let count = r.count;
@@ -134,11 +134,10 @@ fn cancel(table: &[u8], items: &mut [u8], r: Reading, rest: Tail) -> Reading
 }
 
 // Two letters more, by their numbers.
-fn append_gates(table: &[u8], items: &mut [u8], r: Reading, first: u8, second: u8) -> Reading
-    requires fact_1 { Right table.now }
-    requires fact_2 { Readable items.old r }
-    requires fact_3 { (r.count < length items.old) × (r.count < 4096) }
-    requires fact_4 { (first < 6) × (second < 6) }
+fn append_gates(table: Table, items: &mut [u8], r: Reading, first: u8, second: u8) -> Reading
+    requires readable { Readable items.old r }
+    requires place { (r.count < length items.old) × (r.count < 4096) }
+    requires letters { (first < 6) × (second < 6) }
     ensures { Steps (pair (letter_at first) (letter_at second)) items.old r items.new result }
 {
     let tail = r.tail;
@@ -152,8 +151,7 @@ fn append_gates(table: &[u8], items: &mut [u8], r: Reading, first: u8, second: u
 }
 
 // A step's change, where a syllable that is added has its place.
-fn change(table: &[u8], items: &mut [u8], r: Reading, kind: u8, rest: Tail) -> Reading
-    requires table_right { Right table.now }
+fn change(table: Table, items: &mut [u8], r: Reading, kind: u8, rest: Tail) -> Reading
     requires readable { Readable items.old r }
     requires placed { Placed items.old r kind }
     requires rest_fits { Fits rest }
@@ -183,8 +181,7 @@ fn lacks_place(kind: u8, count: usize, places: usize) -> bool
 }
 
 // One letter more, by its number, in an array that may be full.
-pub fn append_gate(table: &[u8], items: &mut [u8], r: Text, letter: u8) -> Added
-    requires table_right { Right table.now }
+pub fn append_gate(table: Table, items: &mut [u8], r: Text, letter: u8) -> Added
     requires readable { ReadableText items.old r }
     requires places { length items.old ≡ 4096 }
     requires letter_few { letter < 6 }
@@ -203,10 +200,9 @@ pub fn append_gate(table: &[u8], items: &mut [u8], r: Text, letter: u8) -> Added
 }
 
 // The reading of a word, in an array that is empty, with a place for each letter.
-pub fn read_word(table: &[u8], items: &mut [u8], word: &[u8]) -> Read
-    requires fact_1 { Right table.now }
-    requires fact_2 { Blank items.old }
-    requires fact_3 { (length word.now ≤ 4096) × (length word.now ≤ length items.old) }
+pub fn read_word(table: Table, items: &mut [u8], word: &[u8]) -> Read
+    requires blank { Blank items.old }
+    requires places { (length word.now ≤ 4096) × (length word.now ≤ length items.old) }
     ensures { Reads word.now items.new result }
 {
     let mut r = Reading {
@@ -216,11 +212,11 @@ pub fn read_word(table: &[u8], items: &mut [u8], word: &[u8]) -> Read
     };
     let mut i: usize = 0;
     while i + 1 < word.len() {
-        let first = number(table, word[i]);
+        let first = table.number(word[i]);
         if first > IDENTITY {
             return Read::Outside(i);
         }
-        let second = number(table, word[i + 1]);
+        let second = table.number(word[i + 1]);
         if second > IDENTITY {
             return Read::Outside(i + 1);
         }
@@ -228,7 +224,7 @@ pub fn read_word(table: &[u8], items: &mut [u8], word: &[u8]) -> Read
         i += 2;
     }
     if i < word.len() {
-        let first = number(table, word[i]);
+        let first = table.number(word[i]);
         if first > IDENTITY {
             return Read::Outside(i);
         }

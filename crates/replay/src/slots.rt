@@ -37,21 +37,13 @@ fn rest_of(r: Record) -> [u64; 6] {
     [r.k, r.wa, r.za, r.zb, r.zc, r.zd].map(large)
 }
 
-// The codes to the last that is not 0.
-fn to_last(syllables: &[u8]) -> &[u8] {
-    let mut codes = syllables;
-    while let [front @ .., 0] = codes {
-        codes = front;
+// As far as the last that is not 0.
+fn to_last(digits: &[u8]) -> &[u8] {
+    let mut shown = digits;
+    while let [front @ .., b'0'] = shown {
+        shown = front;
     }
-    codes
-}
-
-fn and_codes<W: Write>(out: &mut W, syllables: &[u8; 4096]) -> io::Result<()> {
-    text(out, b" ")?;
-    for code in to_last(syllables) {
-        text(out, &[digit(*code)])?;
-    }
-    Ok(())
+    shown
 }
 
 fn written<W: Write>(
@@ -62,7 +54,8 @@ fn written<W: Write>(
 ) -> io::Result<()> {
     write!(out, "{} {}", answer.refusal, answer.length)?;
     numbers(out, rest)?;
-    and_codes(out, syllables)
+    text(out, b" ")?;
+    text(out, to_last(&syllables.map(digit)))
 }
 
 fn add<W: Write>(out: &mut W, r: Record, digits: &[u8]) -> io::Result<()> {

@@ -3,12 +3,11 @@
 #![tactic(auto)]
 
 ghost use Rattle.std.specs.Prelude.{◌≡◌, ◌≤◌, length};
-ghost use Rattle.reading.specs.Steps.{Right};
 ghost use Rattle.slot.specs.Meaning.{slot_of, refused, left, LengthOutcome, AddOutcome};
 ghost use Rattle.slot.specs.Standing.{Standing};
 ghost use Rattle.slot.specs.Ways.{MoreOutcome, six};
 
-use reading::steps::IDENTITY;
+use reading::table::{IDENTITY, Table};
 use reading::{Added, Text};
 use told::Told;
 
@@ -48,8 +47,7 @@ fn put_rest(r: Text, rest: &mut [u64; 6])
 }
 
 // A letter, by its number, more in a right record.
-fn add_right(table: &[u8], number: u8, r: Text, syllables: &mut [u8], rest: &mut [u64; 6]) -> Answer
-    requires fact_1 { Right table.now }
+fn add_right(table: Table, number: u8, r: Text, syllables: &mut [u8], rest: &mut [u64; 6]) -> Answer
     requires fact_2 { number ≤ 5 }
     requires fact_3 { length syllables.old ≡ 4096 }
     requires fact_4 { Standing (slot_of syllables.old rest.old) r }
@@ -72,14 +70,14 @@ pub fn add(letter: u8, syllables: &mut [u8; 4096], rest: &mut [u64; 6]) -> Answe
     ensures { AddOutcome letter (slot_of syllables.old rest.old) (left result (slot_of syllables.new rest.new)) }
 {
     let table = normal_form::reader_table();
-    match told::check(&table, syllables, rest) {
+    match told::check(table, syllables, rest) {
         Told::Wrong => refused(exact::SLOT),
         Told::Right(r) => {
-            let number = reading::steps::number(&table, letter);
+            let number = table.number(letter);
             if number > IDENTITY {
                 return refused(exact::LETTER);
             }
-            add_right(&table, number, r, syllables, rest)
+            add_right(table, number, r, syllables, rest)
         }
     }
 }
@@ -89,7 +87,7 @@ pub fn length(syllables: &[u8; 4096], rest: &[u64; 6]) -> Answer
     ensures { LengthOutcome (slot_of syllables.now rest.now) result }
 {
     let table = normal_form::reader_table();
-    match told::check(&table, syllables, rest) {
+    match told::check(table, syllables, rest) {
         Told::Wrong => refused(exact::SLOT),
         Told::Right(r) => Answer {
             refusal: exact::ACCEPTED,

@@ -1,7 +1,6 @@
 // Whether letters give a lent record, told from the record alone: its codes, the places behind them, the ranges of its numbers, its bytes.
 ghost use Rattle.std.specs.Prelude.{◌≡◌, ◌≤◌, length, take};
 ghost use Rattle.exact.specs.Meaning.Outcome.{Decides};
-ghost use Rattle.reading.specs.Steps.{Right};
 ghost use Rattle.reading.specs.Texts.{whole_of, Few};
 ghost use Rattle.slot.specs.Meaning.{slot_of};
 ghost use Rattle.slot.specs.Tests.{Ranges, Fronts, sum, Behind};
@@ -9,6 +8,7 @@ ghost use Rattle.slot.specs.Standing.{stack_in, Tells};
 
 use exact::both;
 use reading::steps::Tail;
+use reading::table::Table;
 use reading::{Reading, Text};
 
 // What is read from a record that letters give.
@@ -86,8 +86,8 @@ fn behind(items: &[u8], count: usize) -> bool
 }
 
 // The reading of numbers in their ranges, its syllables having so many letters.
-fn reading_in(table: &[u8], letters: usize, rest: &[u64]) -> Text
-    requires { (Right table.now) × ((length rest.now ≡ 6) × ((Ranges rest.now) × (Few (stack_in rest.now letters)))) }
+fn reading_in(table: Table, letters: usize, rest: &[u64]) -> Text
+    requires { (length rest.now ≡ 6) × ((Ranges rest.now) × (Few (stack_in rest.now letters))) }
     ensures { result ≡ whole_of (stack_in rest.now letters) }
 {
     let code = rest[2] * 8 + rest[3] * 4 + rest[4];
@@ -103,8 +103,7 @@ fn reading_in(table: &[u8], letters: usize, rest: &[u64]) -> Text
 }
 
 // The codes and the bytes of a record whose numbers are in their ranges.
-fn check_codes(table: &[u8], items: &[u8], rest: &[u64]) -> Told
-    requires fact_1 { Right table.now }
+fn check_codes(table: Table, items: &[u8], rest: &[u64]) -> Told
     requires fact_2 { length items.now ≡ 4096 }
     requires fact_3 { length rest.now ≡ 6 }
     requires fact_4 { Ranges rest.now }
@@ -121,8 +120,7 @@ fn check_codes(table: &[u8], items: &[u8], rest: &[u64]) -> Told
     Told::Wrong
 }
 
-pub(crate) fn check(table: &[u8], items: &[u8], rest: &[u64]) -> Told
-    requires fact_1 { Right table.now }
+pub(crate) fn check(table: Table, items: &[u8], rest: &[u64]) -> Told
     requires fact_2 { length items.now ≡ 4096 }
     requires fact_3 { length rest.now ≡ 6 }
     ensures { Tells (slot_of items.now rest.now) result }

@@ -20,7 +20,7 @@ pub struct Answer {
 pub fn view(k: i64, n: u8, z: ZOmega, w: ZOmega) -> Answer
     ensures { ViewOutcome k n z w result }
 {
-    let refusal = unitary::check(k, z, w);
+    let refusal = unitary::check_number(k, z, w);
     if refusal != exact::ACCEPTED {
         let none = nils();
         return Answer {

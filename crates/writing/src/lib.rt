@@ -3,7 +3,7 @@
 
 ghost use Rattle.std.specs.Prelude.{◌≡◌, cond, [], ◌∷◌, ◌+◌, ◌≤◌, ◌<◌, eqb, length, replicate, take};
 ghost use Rattle.exact.specs.Meaning.Word.{bytes};
-ghost use Rattle.reading.specs.Steps.{Right, Fits, tail_of};
+ghost use Rattle.reading.specs.Steps.{Fits, tail_of};
 ghost use Rattle.reading.specs.Syllables.{syllable_number, syllable_word};
 ghost use Rattle.writing.specs.Spelt.{first_of, second_of};
 ghost use Rattle.writing.specs.Put.{Put};
@@ -14,6 +14,7 @@ ghost use Rattle.writing.specs.Codes.{codes_word};
 use clifford::Axis;
 use reading::Syllable;
 use reading::steps::Tail;
+use reading::table::Table;
 
 // How often each letter stands in a tail: S, H, I, X, S and W, in this order.
 #[derive(Clone, Copy)]
@@ -65,9 +66,8 @@ fn kept(phase: bool, w: usize) -> usize
     if phase { w } else { 0 }
 }
 
-pub fn ending_of(table: &[u8], t: Tail, phase: bool) -> Ending
-    requires fact_1 { Right table.now }
-    requires fact_2 { Fits t }
+pub fn ending_of(table: Table, t: Tail, phase: bool) -> Ending
+    requires { Fits t }
     ensures { Ended phase (tail_of t) result }
 {
     let split = t.split(table);

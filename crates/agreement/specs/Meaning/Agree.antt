@@ -3,12 +3,10 @@ use Rattle.std.specs.Prelude.{◌≡◌, List, ℕ, take}
 use Rattle.exact.specs.Meaning.Limits.{no_refusal}
 use Rattle.exact.specs.Meaning.Outcome.{Refusal, Outcome, none, ◌then◌, HandsOn, Decides}
 use Rattle.exact.specs.Meaning.Lent.{Lent, lent, untouched}
-use Rattle.unitary.specs.declared.FromGates.{FromGates}
-use Rattle.unitary.specs.Meaning.{MatrixOutcome}
-use Rattle.normal_form.specs.declared.Written.{Written}
+use Rattle.unitary.specs.Meaning.{FromGates, MatrixOutcome}
 use Rattle.normal_form.specs.Meaning as Job3
-use Rattle.normal_form.specs.Meaning.{NormaliseOutcome}
-use Rattle.synthesis_of_clifford_t.specs.declared.Synthesis.{Synthesis}
+use Rattle.normal_form.specs.Meaning.{Written, NormaliseOutcome}
+use Rattle.synthesis_of_clifford_t.specs.Meaning.{Synthesis}
 use Rattle.agreement.specs.declared.Agreement.{Agreement}
 use Rattle.agreement.specs.Meaning.Demand3.{Synthesises}
 

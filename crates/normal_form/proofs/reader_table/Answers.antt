@@ -4,6 +4,6 @@ use Rattle.clifford.specs.Cliffords.{mul_c, inv_c, tconj_c}
 use Rattle.reading.specs.Steps.{right}
 use Rattle.normal_form.proofs.reader_table.Goals as goal
 
-pub returns : goal.returns
+pub invariant_of-result : goal.invariant_of-result
 unfolding mul_c inv_c tconj_c
-returns c = right refl tt
+invariant_of-result c = record { right = right refl tt }

@@ -3,11 +3,11 @@ use Rattle.normal_form.specs.Answers.{size_fits, no_room_for, syllables_room, en
 use Rattle.reading.specs.Held.{count_within}
 use Rattle.normal_form.proofs.write.Goals as goal
 
-pub overflow_add-n : goal.overflow_add-n
-overflow_add-n c = search size_fits
+pub overflow_add-bytes : goal.overflow_add-bytes
+overflow_add-bytes c = search size_fits
 
-pub returns-then-n-buf : goal.returns-then-n-buf
-returns-then-n-buf c = search no_room_for
+pub returns-then-bytes-buf : goal.returns-then-bytes-buf
+returns-then-bytes-buf c = search no_room_for
 
 pub put_syllables-at-requires : goal.put_syllables-at-requires
 put_syllables-at-requires c = search (count_within, syllables_room)

@@ -9,7 +9,7 @@ returns-then-kind-eq1 c = search meets
 
 pub push-requires : goal.push-requires
 push-requires c =
-    (search rules, search rules, bytes_most c.requires.fact_2.holds (omega arith), omega (arith, kind_most c.step-step.ensures))
+    (search rules, search rules, bytes_most c.requires.readable.holds (omega arith), omega (arith, kind_most c.step-step.ensures))
 
 pub returns : goal.returns
 returns c = search adds

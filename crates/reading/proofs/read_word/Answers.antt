@@ -34,7 +34,7 @@ returns-then-second-gt-IDENTITY c =
 pub append_gates-r-requires : goal.append_gates-r-requires
 append_gates-r-requires c =
     let u = c.loop-i.invariant in
-    record { fact_1 = search rules; fact_2 = readable u; fact_3 = room u (omega arith) (omega arith) (omega arith); fact_4 = (omega arith, omega arith) }
+    record { readable = readable u; place = room u (omega arith) (omega arith) (omega arith); letters = (omega arith, omega arith) }
 
 pub overflow_add-i-in-loop-i-2 : goal.overflow_add-i-in-loop-i-2
 overflow_add-i-in-loop-i-2 c = omega arith
@@ -58,7 +58,7 @@ returns-then-first-gt-IDENTITY-2 c = search first_outside
 pub append_gates-r-requires-then-i-word : goal.append_gates-r-requires-then-i-word
 append_gates-r-requires-then-i-word c =
     let u = c.loop-i.invariant in
-    record { fact_1 = search rules; fact_2 = readable u; fact_3 = room u (omega arith) (omega arith) (omega arith); fact_4 = (omega arith, omega arith) }
+    record { readable = readable u; place = room u (omega arith) (omega arith) (omega arith); letters = (omega arith, omega arith) }
 
 pub returns-else-first-gt-IDENTITY-2 : goal.returns-else-first-gt-IDENTITY-2
 returns-else-first-gt-IDENTITY-2 c = search read_last

@@ -1,6 +1,6 @@
--- Each turn leaves fewer codes.
+-- Each turn leaves fewer digits.
 use Rattle.std.proofs.Common.{length}
 use Rattle.replay.proofs.slots.to_last.Given as goal
 
-abbrev pub decreases-loop-codes : goal.decreases-loop-codes
-decreases-loop-codes l = length l.codes
+abbrev pub decreases-loop-shown : goal.decreases-loop-shown
+decreases-loop-shown l = length l.shown

@@ -1,6 +1,6 @@
--- `reading::steps::number` meets its contract. Assumes nothing.
+-- `reading::table::Table::number` meets its contract. Assumes nothing.
 use Rattle.reading.specs.Steps.{number_in, number_low, number_high}
-use Rattle.reading.proofs.steps.number.Goals as goal
+use Rattle.reading.proofs.table.Table.number.Goals as goal
 
 pub returns-then-b-lt72 : goal.returns-then-b-lt72
 returns-then-b-lt72 c = search number_low
