@@ -1,6 +1,8 @@
 -- The tests of a record, one by one: ranges, codes in front, nothing behind them. Assumes nothing.
-use Rattle.std.specs.Prelude.{◌≡◌, refl, Bool, true, false, ◌&&◌, List, [], ◌∷◌, ◌++◌, ℕ, zero, suc, ◌+◌, ◌*◌, ◌/◌, ◌≤◌, ◌<◌, eqb, ltb, ◌-◌, length, take, drop, get_or}
-use Rattle.std.proofs.Common.{sym, ◌∙◌, ap, subst, add-zero, add-one, arith, eqb-true, ltb-true, ltb-false, Fits as FitsIn, take-suc, length-take-le, length-drop, get_or-take, get_or-drop}
+use Rattle.std.specs.Prelude.{◌≡◌, refl, Bool, true, false, ◌&&◌, List, [], ◌∷◌, ◌++◌, ℕ, zero, suc, ◌+◌, ◌*◌, ◌/◌, ◌≤◌, ◌<◌, eqb, ltb, ◌-◌, length}
+use Rattle.std.specs.Prelude.{take, drop, get_or}
+use Rattle.std.proofs.Common.{sym, ◌∙◌, ap, subst, add-zero, add-one, arith, eqb-true, ltb-true, ltb-false, Fits as FitsIn, take-suc, length-take-le}
+use Rattle.std.proofs.Common.{length-drop, get_or-take, get_or-drop}
 use Rattle.std.proofs.lemmas.Bool.{false≢true, eqb-false}
 use Rattle.std.specs.Int.{w16}
 use Rattle.exact.specs.Meaning.Outcome.{Decides}

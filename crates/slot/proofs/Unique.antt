@@ -16,7 +16,8 @@ use Rattle.exact.proofs.Outcomes.Places.{one_plain, one_normal}
 use Rattle.clifford.specs.Words.{◌≈◌}
 use Rattle.clifford.proofs.Words.{before}
 use Rattle.reading.specs.Readings.{start, run, run_ranged, start_ranged, shape, normal_of, fits}
-use Rattle.slot.specs.Meaning.{Answer, answer_of, Left, Slot, Shows, GivenBy, slot, refused, long, Measured, LengthOutcome, left, Extended, add_refusals, AddOutcome}
+use Rattle.slot.specs.Meaning.{Answer, answer_of, Left, Slot, Shows, GivenBy, slot, refused, long, Measured, LengthOutcome, left, Extended}
+use Rattle.slot.specs.Meaning.{add_refusals, AddOutcome}
 use Rattle.slot.proofs.Shown.{one_slot, one_shape}
 use Rattle.slot.proofs.Letters.{given_shown}
 
