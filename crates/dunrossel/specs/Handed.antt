@@ -50,13 +50,6 @@ module _ (k : ℤ) {z w : ZOmega} (zw : List ℤ) (fits : SFits w64 k) (z_is : z
         → Rotates k n zw (j.refusal, out)
     rotates j out o e = record { job = j; outcome = as_given (λ k z w. RotationOutcome k n z w j) o; is = λ i. (j.refusal, e i) }
 
-    pub synthesises : (numbers : Synthesis → List ℕ) (old new : List ℕ) (j : Synthesis) (out : List ℕ)
-        → SynthesiseOutcome (held w64 k) n z w old j new
-        → out ≡ numbers j
-        → Synthesises numbers k n zw old (j.refusal, (out, new))
-    synthesises numbers old new j out o e =
-        record { job = lent j new; outcome = as_given (λ k z w. SynthesiseOutcome k n z w old j new) o; is = λ i. (j.refusal, (e i, new)) }
-
 -- ---- the same of a triple, whose exponent the machine has read back
 module _ (k : ℤ) (n : ℕ) (zw : List ℤ) (fits : SFits w64 k) (t : Triple) (t_is : t ≡ triple_of (held w64 k) n zw) where
   given_in : (Job : ℤ → ℕ → ZOmega → ZOmega → Type 0) → Job t.k t.n t.z t.w → Job k n (z_of zw) (w_of zw)
@@ -80,10 +73,20 @@ module _ (k : ℤ) (n : ℕ) (zw : List ℤ) (fits : SFits w64 k) (t : Triple) (
         is = λ i. (f i, g i);
       }
 
+  pub synthesises : (numbers : Synthesis → List ℕ) (old new : List ℕ) (j : Synthesis) (r : ℕ) (out : List ℕ)
+      → SynthesiseOutcome t.k t.n t.z t.w old j new → r ≡ j.refusal → out ≡ numbers j
+      → Synthesises numbers k n zw old (r, (out, new))
+  synthesises numbers old new j r out o f g =
+      record {
+        job = lent j new;
+        outcome = given_in (λ k n z w. SynthesiseOutcome k n z w old j new) o;
+        is = λ i. (f i, (g i, new));
+      }
+
 -- ---- words
-pub writes : (Answer : List Letter → List Letter → Type 0) (w old new : List ℕ) (j : Written) (out : List ℕ) → WordOutcome Answer w old j new
-    → out ≡ counts j → Writes Answer w old (j.refusal, (out, new))
-writes Answer w old new j out o e = record { job = lent j new; outcome = o; is = λ i. (j.refusal, (e i, new)) }
+pub writes : (Answer : List Letter → List Letter → Type 0) (w old new : List ℕ) (j : Written) (r : ℕ) (out : List ℕ)
+    → WordOutcome Answer w old j new → r ≡ j.refusal → out ≡ counts j → Writes Answer w old (r, (out, new))
+writes Answer w old new j r out o f g = record { job = lent j new; outcome = o; is = λ i. (f i, (g i, new)) }
 
 converts : (Job : Converted → List ℕ → Type 0) (new : List ℕ) (j : Converted) (out : List ℕ) → Job j new → out ≡ counts_in j
     → Converts Job (j.refusal, (out, new))

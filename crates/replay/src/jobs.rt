@@ -1,11 +1,12 @@
 // A job on a payload, and its answer in text.
 use crate::slots;
 use clifford::{Axis, Clifford};
-use normal_form::Written;
+use exact::Refusal;
+use normal_form::Counts;
 use qasm::Edition;
-use record::Record;
-use ring::ZOmega;
-use root_two::{Root, Vect};
+use ring::{Triple, ZOmega};
+use root_two::Root;
+use rotation::Rotation;
 use shown::{numbers, text};
 use std::io;
 use std::io::Write;
@@ -21,43 +22,38 @@ fn matrix<W: Write>(out: &mut W, t: DOmegaUnitary) -> io::Result<()> {
     ring(out, t.w)
 }
 
-fn z_of(r: Record) -> ZOmega {
-    ZOmega {
-        a: r.za,
-        b: r.zb,
-        c: r.zc,
-        d: r.zd,
+fn reduce<W: Write>(out: &mut W, t: Triple) -> io::Result<()> {
+    match unitary::reduce(t) {
+        Ok(reduced) => {
+            write!(out, "0")?;
+            matrix(out, reduced)
+        }
+        Err(refusal) => {
+            write!(out, "{}", refusal.number())?;
+            numbers(out, &[0; 10])
+        }
     }
-}
-
-fn w_of(r: Record) -> ZOmega {
-    ZOmega {
-        a: r.wa,
-        b: r.wb,
-        c: r.wc,
-        d: r.wd,
-    }
-}
-
-fn reduce<W: Write>(out: &mut W, r: Record) -> io::Result<()> {
-    let answer = unitary::reduce(r.k, r.n, z_of(r), w_of(r));
-    write!(out, "{}", answer.refusal)?;
-    matrix(out, answer.matrix)
 }
 
 fn from_gates<W: Write>(out: &mut W, word: &[u8]) -> io::Result<()> {
-    let answer = unitary::from_gates(word);
-    write!(out, "{} {}", answer.refusal, answer.place)?;
-    matrix(out, answer.matrix)
+    match unitary::from_gates(word) {
+        Ok(product) => {
+            write!(out, "0 0")?;
+            matrix(out, product)
+        }
+        Err(refusal) => {
+            write!(out, "{} {}", refusal.number(), refusal.place())?;
+            numbers(out, &[0; 10])
+        }
+    }
 }
 
 // The whole lent buffer stands behind the counts.
-fn written<W: Write>(out: &mut W, answer: Written, lent: &[u8]) -> io::Result<()> {
-    write!(
-        out,
-        "{} {} {} {} ",
-        answer.refusal, answer.place, answer.bytes, answer.tees
-    )?;
+fn written<W: Write>(out: &mut W, answer: Result<Counts, Refusal>, lent: &[u8]) -> io::Result<()> {
+    match answer {
+        Ok(counts) => write!(out, "0 0 {} {} ", counts.bytes, counts.tees)?,
+        Err(refusal) => write!(out, "{} {} 0 0 ", refusal.number(), refusal.place())?,
+    }
     text(out, lent)
 }
 
@@ -91,37 +87,43 @@ fn phase_free<W: Write>(out: &mut W, word: &[u8], lent: &mut [u8]) -> io::Result
     written(out, answer, lent)
 }
 
-fn synthesise<W: Write>(out: &mut W, r: Record, lent: &mut [u8]) -> io::Result<()> {
-    let answer = synthesis_of_clifford_t::synthesise(r.k, r.n, z_of(r), w_of(r), lent);
-    write!(
-        out,
-        "{} 0 {} {} {} ",
-        answer.refusal, answer.bytes, answer.tees, answer.steps
-    )?;
+fn synthesise<W: Write>(out: &mut W, t: Triple, lent: &mut [u8]) -> io::Result<()> {
+    match synthesis_of_clifford_t::synthesise(t, lent) {
+        Ok(spelt) => write!(out, "0 0 {} {} {} ", spelt.bytes, spelt.tees, spelt.steps)?,
+        Err(refusal) => write!(out, "{} 0 0 0 0 ", refusal.number())?,
+    }
     text(out, lent)
 }
 
-fn t_count<W: Write>(out: &mut W, r: Record) -> io::Result<()> {
-    let answer = rotation::t_count(r.k, r.n, z_of(r), w_of(r));
-    write!(out, "{} {}", answer.refusal, answer.tees)
+fn t_count<W: Write>(out: &mut W, t: Triple) -> io::Result<()> {
+    match rotation::t_count(t) {
+        Ok(tees) => write!(out, "0 {tees}"),
+        Err(refusal) => write!(out, "{} 0", refusal.number()),
+    }
 }
 
 fn row<W: Write>(out: &mut W, x: Root, y: Root, z: Root) -> io::Result<()> {
     numbers(out, &[x.p, x.q, y.p, y.q, z.p, z.q])
 }
 
-// The three columns, row by row.
-fn rows<W: Write>(out: &mut W, x: Vect, y: Vect, z: Vect) -> io::Result<()> {
-    row(out, x.x, y.x, z.x)?;
-    row(out, x.y, y.y, z.y)?;
-    row(out, x.z, y.z, z.z)
+// A Rotation has columns.
+fn rows<W: Write>(out: &mut W, r: Rotation) -> io::Result<()> {
+    row(out, r.x.x, r.y.x, r.z.x)?;
+    row(out, r.x.y, r.y.y, r.z.y)?;
+    row(out, r.x.z, r.y.z, r.z.z)
 }
 
-fn rotate<W: Write>(out: &mut W, r: Record) -> io::Result<()> {
-    let answer = rotation::rotate(r.k, r.n, z_of(r), w_of(r));
-    let rotation = answer.rotation;
-    write!(out, "{} {}", answer.refusal, rotation.e)?;
-    rows(out, rotation.x, rotation.y, rotation.z)
+fn rotate<W: Write>(out: &mut W, t: Triple) -> io::Result<()> {
+    match rotation::rotate(t) {
+        Ok(rotation) => {
+            write!(out, "0 {}", rotation.e)?;
+            rows(out, rotation)
+        }
+        Err(refusal) => {
+            write!(out, "{}", refusal.number())?;
+            numbers(out, &[0; 19])
+        }
+    }
 }
 
 // The oracle asks for Cliffords of i32 only.
@@ -153,17 +155,17 @@ fn parts<W: Write>(out: &mut W, q: Clifford) -> io::Result<()> {
     write!(out, "{} {} {} {}", q.a, q.b, q.c, q.d)
 }
 
-fn product<W: Write>(out: &mut W, r: Record) -> io::Result<()> {
-    let x = Four::of(z_of(r));
-    let y = Four::of(w_of(r));
+fn product<W: Write>(out: &mut W, t: Triple) -> io::Result<()> {
+    let x = Four::of(t.z);
+    let y = Four::of(t.w);
     parts(
         out,
         clifford::clifford_product(x.a, x.b, x.c, x.d, y.a, y.b, y.c, y.d),
     )
 }
 
-fn inverse<W: Write>(out: &mut W, r: Record) -> io::Result<()> {
-    let x = Four::of(z_of(r));
+fn inverse<W: Write>(out: &mut W, t: Triple) -> io::Result<()> {
+    let x = Four::of(t.z);
     parts(out, clifford::clifford_inverse(x.a, x.b, x.c, x.d))
 }
 
@@ -175,8 +177,8 @@ fn axis_number(axis: Axis) -> u64 {
     }
 }
 
-fn coset<W: Write>(out: &mut W, r: Record) -> io::Result<()> {
-    let x = Four::of(z_of(r));
+fn coset<W: Write>(out: &mut W, t: Triple) -> io::Result<()> {
+    let x = Four::of(t.z);
     let split = clifford::clifford_split(x.a, x.b, x.c, x.d);
     let axis = split.axis;
     let rest = split.rest;
@@ -184,33 +186,38 @@ fn coset<W: Write>(out: &mut W, r: Record) -> io::Result<()> {
     parts(out, rest)
 }
 
-fn of_record<W: Write>(out: &mut W, job: u8, r: Record, lent: &mut [u8]) -> io::Result<()> {
-    if r.refusal != 0 {
-        return text(out, b"no record");
-    }
-    match job {
-        b'1' => reduce(out, r),
-        b'4' => synthesise(out, r, lent),
-        b'T' => t_count(out, r),
-        b'A' => rotate(out, r),
-        b'P' => product(out, r),
-        b'I' => inverse(out, r),
-        b'C' => coset(out, r),
-        _ => text(out, b"no job"),
+// The job of a bench record's triple.
+fn of_record<W: Write, F: FnOnce(&mut W, Triple) -> io::Result<()>>(
+    out: &mut W,
+    payload: &[u8],
+    job: F,
+) -> io::Result<()>
+    requires { F.IsAlwaysCallable job }
+{
+    match record::read(payload) {
+        Ok(t) => job(out, t),
+        Err(_) => text(out, b"no record"),
     }
 }
 
 // The payload of 2, 3, 5, Q and G is a word, that of R a circuit's text, that of S and L a slot, that of the others a bench record.
 pub fn answer<W: Write>(out: &mut W, job: u8, payload: &[u8], lent: &mut [u8]) -> io::Result<()> {
     match job {
+        b'1' => of_record(out, payload, reduce),
         b'2' => from_gates(out, payload),
         b'3' => normalise(out, payload, lent),
+        b'4' => of_record(out, payload, |out, t| synthesise(out, t, lent)),
         b'5' => phase_free(out, payload, lent),
+        b'T' => of_record(out, payload, t_count),
+        b'A' => of_record(out, payload, rotate),
+        b'P' => of_record(out, payload, product),
+        b'I' => of_record(out, payload, inverse),
+        b'C' => of_record(out, payload, coset),
         b'Q' => write_circuit(out, Edition::Two, payload, lent),
         b'G' => write_circuit(out, Edition::Three, payload, lent),
         b'R' => read_circuit(out, payload, lent),
-        b'S' => slots::answer(out, job, payload, lent.len()),
-        b'L' => slots::answer(out, job, payload, lent.len()),
-        _ => of_record(out, job, record::read(payload), lent),
+        b'S' => slots::answer(out, payload, lent.len(), slots::add),
+        b'L' => slots::answer(out, payload, lent.len(), slots::length),
+        _ => of_record(out, payload, |out, _| text(out, b"no job")),
     }
 }

@@ -1,5 +1,5 @@
 // Slots: the codes and the numbers of a request, and the answer in text.
-use record::Record;
+use ring::Triple;
 use shown::{numbers, text};
 use slot::Answer;
 use std::io;
@@ -33,8 +33,8 @@ fn large(x: i64) -> u64 {
     u64::try_from(x).unwrap_or(u64::MAX)
 }
 
-fn rest_of(r: Record) -> [u64; 6] {
-    [r.k, r.wa, r.za, r.zb, r.zc, r.zd].map(large)
+fn rest_of(t: Triple) -> [u64; 6] {
+    [t.k, t.w.a, t.z.a, t.z.b, t.z.c, t.z.d].map(large)
 }
 
 // As far as the last that is not 0.
@@ -58,34 +58,34 @@ fn written<W: Write>(
     text(out, to_last(&syllables.map(digit)))
 }
 
-fn add<W: Write>(out: &mut W, r: Record, digits: &[u8]) -> io::Result<()> {
+pub fn add<W: Write>(out: &mut W, t: Triple, digits: &[u8]) -> io::Result<()> {
     let mut syllables = codes(digits);
-    let mut rest = rest_of(r);
-    let answer = slot::add(r.n, &mut syllables, &mut rest);
+    let mut rest = rest_of(t);
+    let answer = slot::add(t.n, &mut syllables, &mut rest);
     written(out, answer, &syllables, &rest)
 }
 
-fn length<W: Write>(out: &mut W, r: Record, digits: &[u8]) -> io::Result<()> {
+pub fn length<W: Write>(out: &mut W, t: Triple, digits: &[u8]) -> io::Result<()> {
     let syllables = codes(digits);
-    let rest = rest_of(r);
+    let rest = rest_of(t);
     let answer = slot::length(&syllables, &rest);
     written(out, answer, &syllables, &rest)
 }
 
-fn of_record<W: Write>(out: &mut W, job: u8, r: Record, digits: &[u8]) -> io::Result<()> {
-    if r.refusal != 0 {
-        return text(out, b"no record");
-    }
-    match job {
-        b'S' => add(out, r, digits),
-        _ => length(out, r, digits),
-    }
-}
-
 // The payload has a digit for each code, as many as the room says, and behind them a bench record.
-pub fn answer<W: Write>(out: &mut W, job: u8, payload: &[u8], room: usize) -> io::Result<()> {
-    let Some((digits, record)) = payload.split_at_checked(room) else {
+pub fn answer<W: Write, F: FnOnce(&mut W, Triple, &[u8]) -> io::Result<()>>(
+    out: &mut W,
+    payload: &[u8],
+    room: usize,
+    job: F,
+) -> io::Result<()>
+    requires { F.IsAlwaysCallable job }
+{
+    let Some((digits, rest)) = payload.split_at_checked(room) else {
         return Ok(());
     };
-    of_record(out, job, record::read(record), digits)
+    match record::read(rest) {
+        Ok(t) => job(out, t, digits),
+        Err(_) => text(out, b"no record"),
+    }
 }
