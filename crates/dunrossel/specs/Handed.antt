@@ -18,8 +18,7 @@ use Rattle.clifford.specs.declared.Coset.{Coset}
 use Rattle.synthesis_of_clifford_t.specs.declared.Synthesis.{Synthesis}
 use Rattle.synthesis_of_clifford_t.specs.Meaning.{SynthesiseOutcome}
 use Rattle.circuit.specs.Meaning.{Edition}
-use Rattle.qasm.specs.Meaning.{WriteOutcome, ReadOutcome}
-use Rattle.qasm.specs.declared.Written.{Written as Converted}
+use Rattle.qasm.specs.Meaning.{Written as Converted, WriteOutcome, ReadOutcome}
 use Rattle.view.specs.declared.Answer.{Answer}
 use Rattle.view.specs.Meaning.Outcome.{ViewOutcome}
 use Rattle.rotation.specs.declared.Answer.{Answer as Rotated}
@@ -68,16 +67,17 @@ pub writes : (Answer : List Letter → List Letter → Type 0) (w old new : List
     → out ≡ counts j → Writes Answer w old (j.refusal, (out, new))
 writes Answer w old new j out o e = record { job = lent j new; outcome = o; is = λ i. (j.refusal, (e i, new)) }
 
-converts : (Job : Converted → List ℕ → Type 0) (new : List ℕ) (j : Converted) (out : List ℕ) → Job j new → out ≡ counts_in j
-    → Converts Job (j.refusal, (out, new))
-converts Job new j out o e = record { job = lent j new; outcome = o; is = λ i. (j.refusal, (e i, new)) }
+converts : (Job : Converted → List ℕ → Type 0) (new : List ℕ) (j : Converted) (r : ℕ) (out : List ℕ) → Job j new → r ≡ j.refusal
+    → out ≡ counts_in j → Converts Job (r, (out, new))
+converts Job new j r out o f g = record { job = lent j new; outcome = o; is = λ i. (f i, (g i, new)) }
 
-module _ (old new : List ℕ) (j : Converted) (out : List ℕ) where
-  pub circuits : (e : Edition) (w : List ℕ) → WriteOutcome e w old j new → out ≡ counts_in j → Converts (WriteOutcome e w old) (j.refusal, (out, new))
-  circuits e w = converts (WriteOutcome e w old) new j out
+module _ (old new : List ℕ) (j : Converted) (r : ℕ) (out : List ℕ) where
+  pub circuits : (e : Edition) (w : List ℕ) → WriteOutcome e w old j new → r ≡ j.refusal → out ≡ counts_in j
+      → Converts (WriteOutcome e w old) (r, (out, new))
+  circuits e w = converts (WriteOutcome e w old) new j r out
 
-  pub letters_read : (t : List ℕ) → ReadOutcome t old j new → out ≡ counts_in j → Converts (ReadOutcome t old) (j.refusal, (out, new))
-  letters_read t = converts (ReadOutcome t old) new j out
+  pub letters_read : (t : List ℕ) → ReadOutcome t old j new → r ≡ j.refusal → out ≡ counts_in j → Converts (ReadOutcome t old) (r, (out, new))
+  letters_read t = converts (ReadOutcome t old) new j r out
 
 -- ---- Cliffords
 -- each of the four numbers fits

@@ -2,6 +2,7 @@
 use crate::line::{and_number, and_signed, and_text};
 use crate::slots;
 use clifford::{Axis, Clifford};
+use exact::Refusal;
 use normal_form::Written;
 use qasm::Edition;
 use record::Record;
@@ -76,10 +77,23 @@ fn written<W: Write>(out: &mut W, answer: Written, lent: &[u8]) -> io::Result<()
     and_text(out, lent)
 }
 
-fn circuit<W: Write>(out: &mut W, answer: qasm::Written, lent: &[u8]) -> io::Result<()> {
-    number(out, answer.refusal as u64)?;
-    and_number(out, answer.place as u64)?;
-    and_number(out, answer.bytes as u64)?;
+fn circuit<W: Write>(
+    out: &mut W,
+    answer: Result<usize, Refusal>,
+    lent: &[u8],
+) -> io::Result<()> {
+    match answer {
+        Ok(bytes) => {
+            number(out, 0)?;
+            and_number(out, 0)?;
+            and_number(out, bytes as u64)?;
+        }
+        Err(refusal) => {
+            number(out, refusal.number() as u64)?;
+            and_number(out, refusal.place() as u64)?;
+            and_number(out, 0)?;
+        }
+    }
     and_text(out, lent)
 }
 

@@ -12,7 +12,7 @@ use Rattle.clifford.specs.Meaning.{reduced, Product, Inverse, Split}
 use Rattle.clifford.specs.declared.Clifford.{Clifford}
 use Rattle.synthesis_of_clifford_t.specs.declared.Synthesis.{Synthesis}
 use Rattle.synthesis_of_clifford_t.specs.Meaning.{SynthesiseOutcome}
-use Rattle.qasm.specs.declared.Written.{Written as Converted}
+use Rattle.qasm.specs.Meaning.{Written as Converted}
 use Rattle.slot.specs.declared.Answer.{Answer as Measured}
 use Rattle.slot.specs.Meaning.{slot_of, Left, LengthOutcome, AddOutcome}
 use Rattle.view.specs.declared.Answer.{Answer}
