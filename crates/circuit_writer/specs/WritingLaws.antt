@@ -1,11 +1,11 @@
 -- The laws by which the writer's functions keep their promises: a line more measured, a line more put. Assumes nothing.
-use Rattle.std.specs.Prelude.{◌≡◌, refl, Bool, true, false, cond, List, [], ◌∷◌, ◌++◌, ℕ, zero, suc, ◌+◌, ◌-◌, ◌*◌, ◌<◌, ◌≤◌, eqb, ltb, length, take, drop, get_or, Option, Some, None, Err}
-use Rattle.std.proofs.Common.{sym, ◌∙◌, ap, ap₂, subst, add-one, append-nil, append_assoc, arith, eqb-true, ltb-true, ltb-false, lt-ltb, le-ltb, eq-eqb, ne_eqb, Fits, length-append, length-take-le, take-suc, take_all, drop-cons, get_or-take}
+use Rattle.std.specs.Prelude.{◌≡◌, refl, Bool, true, false, cond, List, [], ◌∷◌, ◌++◌, ℕ, zero, suc, ◌+◌, ◌-◌, ◌*◌, ◌<◌, ◌≤◌, eqb, ltb, length, take, get_or, Option, Some, None, Err}
+use Rattle.std.proofs.Common.{sym, ◌∙◌, ap, ap₂, subst, add-one, append-nil, append_assoc, arith, eqb-true, ltb-true, ltb-false, lt-ltb, le-ltb, eq-eqb, ne_eqb, Fits, length-append, length-take-le, take-suc, take_all, get_or-take}
 use Rattle.std.proofs.lemmas.Bool.{eqb-false}
 use Rattle.std.proofs.lemmas.Option.{none-some, same_Some}
 use Rattle.std.specs.Int.{w8, w64}
 use Rattle.std.proofs.Math.ListN.{get_or-append}
-use Rattle.std.proofs.Math.Seq.{take-length, drop-length, get_or-append_seam}
+use Rattle.std.proofs.Math.Seq.{get_or-append_seam}
 use Rattle.exact.specs.Meaning.Word.{Letter, I, H, S, X, W, T', byte, bytes, IsLetter, FirstOutside}
 use Rattle.exact.specs.declared.Refusal.{Refusal}
 use Rattle.exact.specs.Meaning.Text.{ascii}

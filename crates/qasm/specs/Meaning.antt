@@ -7,7 +7,7 @@ use Rattle.exact.specs.Meaning.Limits.{no_refusal}
 use Rattle.exact.specs.Meaning.Outcome.{Refusal, Refusals, none, ◌then◌, Outcome}
 use Rattle.exact.specs.Meaning.Lent.{lent, untouched, Writes}
 use Rattle.exact.specs.Meaning.Refusals.{long, long_answer, letter, phase, statement, room}
-use Rattle.circuit.specs.Meaning.{Edition, two, three, row, Statement, text, Right, circuit, Reads}
+use Rattle.circuit.specs.Meaning.{Edition, row, Statement, text, Right, circuit, Reads}
 
 -- ---- what is handed back: the refusal or 0, its place, and the bytes written
 pub record Written : Type 0 where

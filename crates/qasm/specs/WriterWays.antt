@@ -3,7 +3,7 @@ use Rattle.std.specs.Prelude.{◌≡◌, refl, ◌⊎◌, Bool, true, false, Lis
 use Rattle.std.proofs.Common.{sym, ◌∙◌, ap, subst, inl, inr, arith, eqb-true, Fits, lit≤, length-append}
 use Rattle.std.proofs.lemmas.Bool.{false≢true}
 use Rattle.std.specs.Int.{w64}
-use Rattle.exact.specs.Meaning.Word.{Letter as Gate, W, byte, FirstOutside, First, Spelled}
+use Rattle.exact.specs.Meaning.Word.{Letter as Gate, FirstOutside, Spelled}
 use Rattle.exact.specs.Meaning.Limits.{longest, circuit_enough, phase_refusal, room_refusal}
 use Rattle.exact.specs.Meaning.Outcome.{Refusal, Rung}
 use Rattle.exact.specs.Meaning.Lent.{lent, untouched}

@@ -9,7 +9,6 @@ ghost use Rattle.circuit.specs.Meaning.{edition_of};
 ghost use Rattle.circuit.specs.Lines.{OfCircuit};
 
 pub use circuit::Edition;
-
 use circuit_reader::Circuit;
 use circuit_writer::Measured;
 use exact::Refusal;
@@ -30,7 +29,12 @@ fn put_circuit(head: &[u8], lines: usize, word: &[u8], buf: &mut [u8]) -> Result
 }
 
 // A word that has been measured, in an edition.
-fn write_word(edition: Edition, measured: Measured, word: &[u8], buf: &mut [u8]) -> Result<usize, Refusal>
+fn write_word(
+    edition: Edition,
+    measured: Measured,
+    word: &[u8],
+    buf: &mut [u8],
+) -> Result<usize, Refusal>
     requires fact_1 { length word.now ≤ 4096 }
     requires fact_2 { Measures word.now measured.lines }
     requires fact_3 { PhaseIs word.now measured.phase }
