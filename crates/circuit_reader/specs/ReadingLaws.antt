@@ -88,19 +88,17 @@ module _ (s : List ℕ) (at : ℕ) (w : List ℕ) (n k : ℕ) (a : Along (take (
 gate_named : (a : Statement) → length (read_as a) ≡ 1 → ((p : Bool) → T (allowed p a)) → {b : ℕ} → line_of a ≡ b ∷ ascii " q[0];\n" → GateIs b true
 gate_named a o m e = record { gate = λ q. record { statement = a; named = e; one = o; may = m } }
 
-pub gate_hx : {b : ℕ} → (b ≡ 104) ⊎ (b ≡ 120) → GateIs b true
-gate_hx (inl e) = gate_named h' refl (λ p. tt) (ap (λ x. x ∷ ascii " q[0];\n") (sym e))
-gate_hx (inr e) = gate_named x' refl (λ p. tt) (ap (λ x. x ∷ ascii " q[0];\n") (sym e))
+pub gate_h : {b : ℕ} → b ≡ 104 → GateIs b true
+gate_h e = gate_named h' refl (λ p. tt) (ap (λ x. x ∷ ascii " q[0];\n") (sym e))
 
-pub gate_st : (b : ℕ) → 115 ≤ b → b < 117 → GateIs b true
-gate_st b l m = go (eqb b 115) refl
-  where
-    go : (z : Bool) → eqb b 115 ≡ z → GateIs b true
-    go true e = gate_named s' refl (λ p. tt) (ap (λ x. x ∷ ascii " q[0];\n") (sym (eqb-true b 115 e)))
-    go false e =
-        let n : b ≡ 115 → ⊥ = eqb-false b 115 e in
-        let f : 116 ≡ b = omega arith in
-        gate_named t' refl (λ p. tt) (ap (λ x. x ∷ ascii " q[0];\n") f)
+pub gate_s : {b : ℕ} → b ≡ 115 → GateIs b true
+gate_s e = gate_named s' refl (λ p. tt) (ap (λ x. x ∷ ascii " q[0];\n") (sym e))
+
+pub gate_t : {b : ℕ} → b ≡ 116 → GateIs b true
+gate_t e = gate_named t' refl (λ p. tt) (ap (λ x. x ∷ ascii " q[0];\n") (sym e))
+
+pub gate_x : {b : ℕ} → b ≡ 120 → GateIs b true
+gate_x e = gate_named x' refl (λ p. tt) (ap (λ x. x ∷ ascii " q[0];\n") (sym e))
 
 pub gate_at : (phase : Bool) (s : List ℕ) (at : ℕ) (z y : Bool) → at < length s → GateIs (get_or s at 0) z → z ≡ true
     → TailIs (take (length s - (at + 1)) (drop (at + 1) s)) y → y ≡ true → Taken phase s at (at + 8) 1

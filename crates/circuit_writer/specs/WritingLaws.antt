@@ -1,5 +1,5 @@
 -- The laws by which the writer's functions keep their promises: a line more measured, a line more put. Assumes nothing.
-use Rattle.std.specs.Prelude.{◌≡◌, refl, Bool, true, false, cond, List, [], ◌∷◌, ◌++◌, ℕ, zero, suc, ◌+◌, ◌-◌, ◌*◌, ◌<◌, ◌≤◌, eqb, ltb, length, take, get_or, Option, Some, None, Err}
+use Rattle.std.specs.Prelude.{◌≡◌, refl, Bool, true, false, cond, List, [], ◌∷◌, ◌++◌, ℕ, zero, suc, ◌+◌, ◌-◌, ◌*◌, ◌<◌, ◌≤◌, eqb, ltb, length, take, set, get_or, Option, Some, None, Err}
 use Rattle.std.proofs.Common.{sym, ◌∙◌, ap, ap₂, subst, add-one, append-nil, append_assoc, arith, eqb-true, ltb-true, ltb-false, lt-ltb, le-ltb, eq-eqb, ne_eqb, Fits, length-append, length-take-le, take-suc, take_all, get_or-take}
 use Rattle.std.proofs.lemmas.Bool.{eqb-false}
 use Rattle.std.proofs.lemmas.Option.{none-some, same_Some}
@@ -11,8 +11,7 @@ use Rattle.exact.specs.declared.Refusal.{Refusal}
 use Rattle.exact.specs.Meaning.Text.{ascii}
 use Rattle.exact.specs.Cases.Letters.{letter_of, letters_of}
 use Rattle.exact.proofs.Cases.Letters.{letter_of_byte, letters_of_append, letters_of_length, letter_back, is_letter}
-use borrow.Rule.Slice.PartMut.{put_mid}
-use Rattle.lent.specs.Written.{Written as Puts, put_there, written_both, written_length}
+use Rattle.lent.specs.Written.{Written as Puts, written_both, written_byte, written_length}
 use Rattle.circuit.specs.Meaning.{lines, statement_of, circuit}
 use Rattle.circuit.proofs.Lines.{lines_append, cons_head, cons_tail, bytes_append}
 use Rattle.circuit_writer.specs.Writing.{Spells, size_of, size, SizeIs, letter, no_letter, Measures, PhaseIs, past_phase, MeasureIs}
@@ -60,9 +59,9 @@ module _ (p i b : ℕ) (l : i ≤ p) where
   past_behind n = rw (le-ltb p i l, ne_eqb b 87 n)
 
 -- ---- a letter's line
-pub gate_put : (l : List ℕ) (at n : ℕ) (t : List ℕ) → at + 8 ≤ length l → t ≡ n ∷ ascii " q[0];\n"
-    → Puts l at (n ∷ ascii " q[0];\n") (put_mid at (at + 8 - at) l t) (at + 8)
-gate_put l at n t h e = record { is = put_there l at (n ∷ ascii " q[0];\n") t (at + 8 - at) (omega arith) h e; behind = refl }
+pub gate_put : (l : List ℕ) (at n : ℕ) {m : List ℕ} {i : ℕ} → Puts (set l at n) (at + 1) (ascii " q[0];\n") m i
+    → Puts l at (n ∷ ascii " q[0];\n") m i
+gate_put l at n p = written_both (written_byte l at n) p
 
 -- I has no line
 pub line_I : {b : ℕ} (l : List ℕ) (at : ℕ) → b ≡ 73 → Puts l at (lines (statement_of (letter_of b))) l at

@@ -63,8 +63,8 @@ fn put_gate(buf: &mut [u8], at: usize, name: u8) -> usize
     requires { at + 8 ≤ length buf.old }
     ensures { Puts buf.old at (name ∷ ascii " q[0];\n") buf.new result }
 {
-    buf[at..at + 8].copy_from_slice(&[name, b' ', b'q', b'[', b'0', b']', b';', b'\n']);
-    at + 8
+    buf[at] = name;
+    lent::put(buf, at + 1, b" q[0];\n")
 }
 
 // The line of a letter; none for I.

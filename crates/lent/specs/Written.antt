@@ -3,8 +3,6 @@
 use Rattle.std.specs.Prelude.{◌≡◌, refl, List, [], ◌∷◌, ◌++◌, ℕ, suc, ◌+◌, ◌≤◌, ◌<◌, length, set, take, drop, get_or}
 use Rattle.std.proofs.Common.{sym, ◌∙◌, ap, ap₂, subst, subst₂, add-one, arith, length-append, take-suc, take_all}
 use Rattle.std.proofs.lemmas.List.Edits.{sets, sets-eq}
-use Rattle.std.proofs.lemmas.Slice.{put_mid-paste}
-use borrow.Rule.Slice.PartMut.{put_mid}
 use Rattle.std.proofs.Math.Seq.{length-sets}
 use Rattle.exact.specs.Meaning.Lent.{over}
 
@@ -30,13 +28,6 @@ written_byte old at b = record { is = refl; behind = refl }
 
 pub written_length : {old : List ℕ} {at : ℕ} {t new : List ℕ} {next : ℕ} → Written old at t new next → length new ≡ length old
 written_length {old} {at} {t} p = ap length p.is ∙ length-sets old at t
-
--- a text copied over a part that is as long
-pub put_there : (l : List ℕ) (at : ℕ) (s t : List ℕ) (k : ℕ) → k ≡ length s → at + length s ≤ length l → t ≡ s → put_mid at k l t ≡ sets l at s
-put_there l at s t k e h q =
-    put_mid-paste at k l t s k q refl e
-    ∙ ap₂ (λ x i. take at l ++ x ++ drop (at + i) l) (take_all k s (omega arith)) e
-    ∙ sym (sets-eq s l at h)
 
 -- a text written at the start, which has room
 pub written_over : (s : List ℕ) {old new : List ℕ} {size : ℕ} → Written old 0 s new size → length s ≤ length old

@@ -3,4 +3,4 @@ use Rattle.circuit_writer.specs.WritingLaws.{gate_put}
 use Rattle.circuit_writer.proofs.put_gate.Goals as goal
 
 pub returns : goal.returns
-returns c = gate_put _ _ _ _ c.requires c.copy_from_slice.ensures.after
+returns c = search gate_put
