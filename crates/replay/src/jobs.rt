@@ -1,7 +1,7 @@
 // A job on a payload, and its answer in text.
 use crate::line::{and_number, and_signed, and_text};
 use crate::slots;
-use clifford::{Axis, Clifford};
+use clifford::{Clifford, Four};
 use normal_form::Written;
 use qasm::Edition;
 use record::Record;
@@ -172,23 +172,12 @@ fn narrow(x: i64) -> i32 {
     x as i32
 }
 
-// Four numbers of a Clifford, as the record has them.
-#[derive(Clone, Copy)]
-struct Four {
-    a: i32,
-    b: i32,
-    c: i32,
-    d: i32,
-}
-
-impl Four {
-    fn of(x: ZOmega) -> Four {
-        Four {
-            a: narrow(x.a),
-            b: narrow(x.b),
-            c: narrow(x.c),
-            d: narrow(x.d),
-        }
+fn four_of(x: ZOmega) -> Four {
+    Four {
+        a: narrow(x.a),
+        b: narrow(x.b),
+        c: narrow(x.c),
+        d: narrow(x.d),
     }
 }
 
@@ -200,35 +189,20 @@ fn parts<W: Write>(out: &mut W, q: Clifford) -> io::Result<()> {
 }
 
 fn product<W: Write>(out: &mut W, r: Record) -> io::Result<()> {
-    let x = Four::of(z_of(r));
-    let y = Four::of(w_of(r));
-    parts(
-        out,
-        clifford::clifford_product(x.a, x.b, x.c, x.d, y.a, y.b, y.c, y.d),
-    )
+    let x = four_of(z_of(r));
+    let y = four_of(w_of(r));
+    parts(out, clifford::clifford_product(x, y))
 }
 
 fn inverse<W: Write>(out: &mut W, r: Record) -> io::Result<()> {
-    let x = Four::of(z_of(r));
-    parts(out, clifford::clifford_inverse(x.a, x.b, x.c, x.d))
-}
-
-fn axis_number(axis: Axis) -> u64 {
-    match axis {
-        Axis::I => 0,
-        Axis::H => 1,
-        Axis::SH => 2,
-    }
+    parts(out, clifford::clifford_inverse(four_of(z_of(r))))
 }
 
 fn coset<W: Write>(out: &mut W, r: Record) -> io::Result<()> {
-    let x = Four::of(z_of(r));
-    let split = clifford::clifford_split(x.a, x.b, x.c, x.d);
-    let axis = split.axis;
-    let rest = split.rest;
-    number(out, axis_number(axis))?;
+    let split = clifford::clifford_split(four_of(z_of(r)));
+    number(out, u64::from(u8::from(split.axis)))?;
     text(out, b" ")?;
-    parts(out, rest)
+    parts(out, split.rest)
 }
 
 fn of_record<W: Write>(out: &mut W, job: u8, r: Record, lent: &mut [u8]) -> io::Result<()> {
