@@ -50,7 +50,7 @@ fn write(table: Table, items: &[u8], r: Reading, phase: bool, buf: &mut [u8]) ->
     if n > buf.len() {
         return refused(exact::ROOM, 0);
     }
-    let at = writing::put_syllables(buf, items, count);
+    let at = writing::put_syllables(buf, &items[..count]);
     writing::put_ending(buf, at, e);
     Written {
         refusal: exact::ACCEPTED,
