@@ -9,13 +9,11 @@ use Rattle.exact.specs.Meaning.Lent as Lent
 use Rattle.exact.specs.Meaning.Lent.{lent, over}
 use Rattle.exact.proofs.Outcomes.Lent.{handed_same}
 use Rattle.ring.specs.declared.ZOmega.{ZOmega}
-use Rattle.normal_form.specs.declared.Written.{Written}
-use Rattle.normal_form.specs.Meaning.{Normalises, DropsPhase, WordOutcome, NormaliseOutcome}
+use Rattle.normal_form.specs.Meaning.{Written, Normalises, DropsPhase, WordOutcome, NormaliseOutcome}
 use Rattle.normal_form.specs.Again.{ComesOut, LeftAgain, normal_again, phase_free_again, phase_free_again_5, normalise_twice}
 use Rattle.normal_form.specs.Again.{phase_free_normalised, phase_free_twice}
-use Rattle.synthesis_of_clifford_t.specs.declared.Synthesis.{Synthesis}
 use Rattle.synthesis_of_clifford_t.specs.Meaning as Job4
-use Rattle.synthesis_of_clifford_t.specs.Meaning.{SpellingOf, SynthesiseOutcome}
+use Rattle.synthesis_of_clifford_t.specs.Meaning.{Synthesis, SpellingOf, SynthesiseOutcome}
 use Rattle.synthesis_of_clifford_t.proofs.Enough.{bytes_there, bytes_few}
 use Rattle.synthesis_of_clifford_t.proofs.OneMatrix.{answer_there, seen_is}
 use Rattle.handed.specs.Meaning.{z_of, w_of, counts_of}

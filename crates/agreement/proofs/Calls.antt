@@ -5,9 +5,9 @@ use Rattle.exact.specs.Meaning.Matrix.{Same}
 use Rattle.exact.specs.Meaning.Word.{Letter, word, tees, bytes}
 use Rattle.exact.specs.Meaning.Limits.{no_refusal}
 use Rattle.exact.specs.Meaning.Lent.{Lent}
-use Rattle.unitary.specs.declared.FromGates.{FromGates}
-use Rattle.normal_form.specs.declared.Written.{Written}
-use Rattle.synthesis_of_clifford_t.specs.declared.Synthesis.{Synthesis}
+use Rattle.unitary.specs.Meaning.{FromGates}
+use Rattle.normal_form.specs.Meaning.{Written}
+use Rattle.synthesis_of_clifford_t.specs.Meaning.{Synthesis}
 use Rattle.handed.specs.Meaning.{ten, counts, counts_of}
 use Rattle.dunrossel.specs.Meaning.Exports.{Synthesises}
 use Rattle.agreement.specs.Meaning.Demand3.{Within, BothWays}

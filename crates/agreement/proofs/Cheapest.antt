@@ -30,12 +30,10 @@ use Rattle.normal_form.specs.Theorems.{HasNormal, has_normal}
 use Rattle.normal_form.specs.Cheapest.{normalise_cheapest, phase_free_cheapest_5}
 use Rattle.steps.specs.Steps.{letters}
 use Rattle.steps.proofs.Synthesised.{synthesised}
-use Rattle.synthesis_of_clifford_t.specs.declared.Synthesis.{Synthesis}
-use Rattle.synthesis_of_clifford_t.specs.Meaning.{Spelling, SpellingOf}
+use Rattle.synthesis_of_clifford_t.specs.Meaning.{Synthesis, Spelling, SpellingOf}
 use Rattle.synthesis_of_clifford_t.proofs.OneMatrix.{seen}
 use Rattle.synthesis_of_clifford_t.proofs.Cheapest.{synthesised_cheapest}
-use Rattle.rotation.specs.declared.Count.{Count}
-use Rattle.rotation.specs.Meaning.{refused_count, AnswersCount, CountOutcome}
+use Rattle.rotation.specs.Meaning.{Count, refused_count, AnswersCount, CountOutcome}
 use Rattle.rotation.specs.Answers.{counted}
 use Rattle.handed.specs.Meaning.{z_of, w_of, counts_of, steps_of}
 use Rattle.dunrossel.specs.Meaning.Exports.{Writes, Synthesises}

@@ -6,9 +6,9 @@ use Rattle.std.specs.Prelude.{List, ℕ}
 use Rattle.exact.specs.Meaning.Matrix.{Same}
 use Rattle.exact.specs.Meaning.Word.{Letter, word}
 use Rattle.exact.specs.Meaning.Lent.{Lent}
-use Rattle.unitary.specs.declared.FromGates.{FromGates}
-use Rattle.normal_form.specs.declared.Written.{Written}
-use Rattle.synthesis_of_clifford_t.specs.declared.Synthesis.{Synthesis}
+use Rattle.unitary.specs.Meaning.{FromGates}
+use Rattle.normal_form.specs.Meaning.{Written}
+use Rattle.synthesis_of_clifford_t.specs.Meaning.{Synthesis}
 use Rattle.agreement.specs.Meaning.Demand3.{Within, BothWays, Agreed, OneOutcome}
 use Rattle.agreement.specs.Meaning.Exports.{Wrote, Made, BothCalls, AgreedCalls, OneCall}
 use Rattle.agreement.proofs.Jobs.{ways_agree, ways_one}

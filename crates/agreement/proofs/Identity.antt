@@ -9,10 +9,10 @@ use Rattle.exact.specs.Meaning.Limits.{longest}
 use Rattle.exact.specs.Meaning.Lent.{Lent}
 use Rattle.exact.proofs.Matrices.Same.{Same-sym}
 use Rattle.exact.proofs.Matrices.Least.{least_same}
-use Rattle.unitary.specs.declared.FromGates.{FromGates}
-use Rattle.normal_form.specs.declared.Written.{Written}
+use Rattle.unitary.specs.Meaning.{FromGates}
+use Rattle.normal_form.specs.Meaning.{Written}
 use Rattle.normal_form.specs.Identity.{I_nothing}
-use Rattle.synthesis_of_clifford_t.specs.declared.Synthesis.{Synthesis}
+use Rattle.synthesis_of_clifford_t.specs.Meaning.{Synthesis}
 use Rattle.agreement.specs.Meaning.Demand3.{Within, BothWays, OneOutcome}
 use Rattle.agreement.specs.Meaning.Exports.{Wrote, Made, BothCalls, OneCall}
 use Rattle.agreement.proofs.Demand3.{one_outcome, exports_one_outcome}

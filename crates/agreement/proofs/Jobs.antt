@@ -21,14 +21,11 @@ use Rattle.exact.proofs.Outcomes.Lent.{text_there}
 use Rattle.exact.proofs.Outcomes.Places.{not_both, of_bytes}
 use Rattle.exact.proofs.Outcomes.Checked.{Taken, taken_checks}
 use Rattle.ring.specs.Meaning.{quad}
-use Rattle.unitary.specs.declared.FromGates.{FromGates}
-use Rattle.unitary.specs.Meaning.{triple, Answers, stopped, Multiplies, MatrixOutcome}
-use Rattle.normal_form.specs.declared.Written.{Written}
+use Rattle.unitary.specs.Meaning.{FromGates, triple, Answers, stopped, Multiplies, MatrixOutcome}
 use Rattle.normal_form.specs.Meaning as Job3
-use Rattle.normal_form.specs.Meaning.{Normalises, NormaliseOutcome, word_refusals}
-use Rattle.synthesis_of_clifford_t.specs.declared.Synthesis.{Synthesis}
+use Rattle.normal_form.specs.Meaning.{Written, Normalises, NormaliseOutcome, word_refusals}
 use Rattle.synthesis_of_clifford_t.specs.Meaning as Job4
-use Rattle.synthesis_of_clifford_t.specs.Meaning.{SpellingOf}
+use Rattle.synthesis_of_clifford_t.specs.Meaning.{Synthesis, SpellingOf}
 use Rattle.synthesis_of_clifford_t.proofs.Counted.{steps_moved, one_number}
 use Rattle.steps.proofs.Synthesised.{word_enough}
 use Rattle.agreement.specs.Meaning.Demand3.{Within, Synthesises, BothWays, Agreed, Seen, seen_first, seen_second, OneOutcome}

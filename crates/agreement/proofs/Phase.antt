@@ -5,8 +5,7 @@ use Rattle.std.proofs.Common.{sym, ◌∙◌, ap, ap₂, arith}
 use Rattle.exact.specs.Meaning.Matrix.{ByOmega}
 use Rattle.exact.specs.Meaning.Word.{Letter, word, bytes}
 use Rattle.exact.specs.Meaning.Limits.{no_refusal}
-use Rattle.normal_form.specs.declared.Written.{Written}
-use Rattle.normal_form.specs.Meaning.{Normalises, DropsPhase}
+use Rattle.normal_form.specs.Meaning.{Written, Normalises, DropsPhase}
 use Rattle.normal_form.specs.Phase.{written_by_omega, by_omega_written, counts_beside}
 use Rattle.handed.specs.Meaning.{counts}
 use Rattle.dunrossel.specs.Meaning.Exports.{Writes}

@@ -7,7 +7,7 @@ use Rattle.exact.specs.Meaning.Triple.{Triple, entries}
 use Rattle.exact.specs.Meaning.Limits.{no_refusal}
 use Rattle.exact.specs.Meaning.Lent.{Lent}
 use Rattle.unitary.specs.Meaning.{given, Answers}
-use Rattle.synthesis_of_clifford_t.specs.declared.Synthesis.{Synthesis}
+use Rattle.synthesis_of_clifford_t.specs.Meaning.{Synthesis}
 use Rattle.synthesis_of_clifford_t.proofs.Unique.{synthesise_unique}
 use Rattle.synthesis_of_clifford_t.proofs.OneMatrix.{one_matrix, steps_refused, steps_most, steps_few}
 use Rattle.handed.specs.Meaning.{z_of, w_of, counts_of, steps_of}

@@ -15,11 +15,9 @@ use Rattle.exact.proofs.Rotation.Laws.{word_rotation, rotation_word, rotation_mo
 use Rattle.exact.proofs.Rotation.Least.{normal_least}
 use Rattle.ring.specs.Meaning.{quad}
 use Rattle.ring.specs.declared.ZOmega.{ZOmega}
-use Rattle.synthesis_of_clifford_t.specs.declared.Synthesis.{Synthesis}
-use Rattle.synthesis_of_clifford_t.specs.Meaning.{text, refused, counts, SpellingOf, asked, SynthesiseOutcome}
+use Rattle.synthesis_of_clifford_t.specs.Meaning.{Synthesis, text, refused, counts, SpellingOf, asked, SynthesiseOutcome}
 use Rattle.synthesis_of_clifford_t.proofs.Enough.{answer_short}
-use Rattle.rotation.specs.declared.Count.{Count}
-use Rattle.rotation.specs.Meaning.{refused_count, AnswersCount, CountOutcome}
+use Rattle.rotation.specs.Meaning.{Count, refused_count, AnswersCount, CountOutcome}
 use Rattle.rotation.specs.Unique.{count_unique}
 use Rattle.rotation.specs.Answers.{exponent_is}
 use Rattle.handed.specs.Meaning.{z_of, w_of, counts_of}

@@ -1,5 +1,6 @@
 -- Why the readers of one number answer right: a step of theirs by each law. Assumes nothing.
-use Rattle.std.specs.Prelude.{◌≡◌, refl, ◌⊎◌, List, [], ◌∷◌, ◌++◌, ℕ, zero, suc, ◌+◌, ◌-◌, ◌*◌, ◌/◌, ◌^◌, ◌≤◌, ◌<◌, ℤ, pos, negsuc, ◌-ℤ◌, length, get_or, drop}
+use Rattle.std.specs.Prelude.{◌≡◌, refl, ◌⊎◌, List, [], ◌∷◌, ◌++◌, ℕ, zero, suc, ◌+◌, ◌-◌, ◌*◌, ◌/◌, ◌^◌, ◌≤◌, ◌<◌, ℤ, pos, negsuc, ◌-ℤ◌, length}
+use Rattle.std.specs.Prelude.{get_or, drop, Option, Some, None}
 use Rattle.std.proofs.Common.{sym, ◌∙◌, ap, subst, inl, inr, append_assoc, append-nil, add-one, arith, drop_of_length-le, length-append, drop-cons, SFits, to_z}
 use Rattle.std.specs.Int.{w64}
 use Rattle.std.proofs.lemmas.Int.{to_z_pos, to_z-of_z}
@@ -9,27 +10,22 @@ use Rattle.decimal.specs.Decimal.{Digit, Digits, Grown, First, Ends, Goes, digit
 use Rattle.decimal.specs.Decimal.{cut, goes_on, first_of, all_digits, no_digit, minus_first, cons_head, cons_tail}
 use Rattle.decimal.specs.Format.{Found, Missing, natural, whole}
 use Rattle.decimal.specs.Read.{Taken, DigitIs, PushIs, NaturalIs, WholeIs}
-use Rattle.decimal.specs.declared.Step.{Step}
-use Rattle.decimal.specs.declared.Step.TheVariants.{More, Stop}
-use Rattle.decimal.specs.declared.Natural.{Natural}
-use Rattle.decimal.specs.declared.Natural.TheVariants.{Is, No}
-use Rattle.decimal.specs.declared.Whole.{Whole}
 
 -- ---- a digit more
-module _ (w b most : ℕ) (x : Step) (is-d : DigitIs b 9 x) where
-  pub push_stop : x ≡ Stop → PushIs w b most Stop
+module _ (w b most : ℕ) (x : Option ℕ) (is-d : DigitIs b 9 x) where
+  pub push_stop : x ≡ None → PushIs w b most None
   push_stop e g =
       let stop : First b 9 → ⊥ = subst (DigitIs b 9) e is-d in
       stop (record { digit = g.digit; least = omega (arith, g.digit) })
 
-  module _ (d : ℕ) (has-d : x ≡ More d) where
+  module _ (d : ℕ) (has-d : x ≡ Some d) where
     digit_taken : Taken 0 b 9 d
     digit_taken = subst (DigitIs b 9) has-d is-d
 
-    pub push_over : most - w * 10 < d → PushIs w b most Stop
+    pub push_over : most - w * 10 < d → PushIs w b most None
     push_over h g = omega (arith, g.least, digit_taken.is)
 
-    pub push_more : (w ≡ 0 → ⊥) → w ≤ most / 10 → d ≤ most - w * 10 → PushIs w b most (More (w * 10 + d))
+    pub push_more : (w ≡ 0 → ⊥) → w ≤ most / 10 → d ≤ most - w * 10 → PushIs w b most (Some (w * 10 + d))
     push_more p l h = (record { digit = digit_taken.digit; is = omega (arith, digit_taken.is); small = omega arith }, omega arith)
 
 -- ---- a run of digits: those from at to i are those of v
@@ -45,7 +41,7 @@ byte_and s i h = drop-cons s i 0 h ∙ ap (λ j. get_or s i 0 ∷ drop j s) (sym
 digit_of : (b d : ℕ) → Digit b → d ≡ b - 48 → 48 + d ≡ b
 digit_of b d h e = omega (arith, h)
 
-pub reading_first : (s : List ℕ) (at most v : ℕ) (x : Step) → at < length s → DigitIs (get_or s at 0) most x → x ≡ More v
+pub reading_first : (s : List ℕ) (at most v : ℕ) (x : Option ℕ) → at < length s → DigitIs (get_or s at 0) most x → x ≡ Some v
     → Reading s at most v (at + 1)
 reading_first s at most v x h is-d e =
     record {
@@ -70,7 +66,7 @@ module _ (s : List ℕ) (at most v i : ℕ) (r : Reading s at most v i) (h : i <
   here : drop at s ≡ digits v ++ (byte ∷ drop (i + 1) s)
   here = r.is ∙ ap (λ x. digits v ++ x) (byte_and s i h)
 
-  pub reading_more : (v' : ℕ) (x : Step) → PushIs v byte most x → x ≡ More v' → Reading s at most v' (i + 1)
+  pub reading_more : (v' : ℕ) (x : Option ℕ) → PushIs v byte most x → x ≡ Some v' → Reading s at most v' (i + 1)
   reading_more v' x is-v e =
       record {
         is = here ∙ sym (append_assoc (digits v) (byte ∷ []) (drop (i + 1) s)) ∙ ap (λ x. x ++ drop (i + 1) s) digits_of;
@@ -94,7 +90,7 @@ module _ (s : List ℕ) (at most v i : ℕ) (r : Reading s at most v i) (h : i <
     within = omega arith;
   }
 
-  pub reading_stop : (e : ℕ) (x : Step) → e < 48 → (byte ≡ e → ⊥) → PushIs v byte most x → x ≡ Stop → Missing (natural most e) (drop at s)
+  pub reading_stop : (e : ℕ) (x : Option ℕ) → e < 48 → (byte ≡ e → ⊥) → PushIs v byte most x → x ≡ None → Missing (natural most e) (drop at s)
   reading_stop e x l q is-v h' = record { none = none }
     where
       stop : Grown v byte most → ⊥
@@ -127,7 +123,7 @@ module _ (s : List ℕ) (at most e : ℕ) (l : e < 48) where
   pub natural_past : length s ≤ at → Missing (natural most e) (drop at s)
   natural_past h = only_digits [] tt (drop_of_length-le s h)
 
-  pub natural_first : (x : Step) → at < length s → DigitIs (get_or s at 0) most x → x ≡ Stop → Missing (natural most e) (drop at s)
+  pub natural_first : (x : Option ℕ) → at < length s → DigitIs (get_or s at 0) most x → x ≡ None → Missing (natural most e) (drop at s)
   natural_first x h is-d q = record {
     none = λ n rest ok p.
         let stop : First (get_or s at 0) most → ⊥ = subst (DigitIs (get_or s at 0) most) q is-d in
@@ -137,8 +133,8 @@ module _ (s : List ℕ) (at most e : ℕ) (l : e < 48) where
   }
 
 -- ---- with no minus
-module _ (s : List ℕ) (at e most : ℕ) (x : Natural) (is-v : NaturalIs s (drop at s) e most x) where
-  pub positive_none : 2 ^ 63 ≤ most + 1 → at < length s → (get_or s at 0 ≡ 45 → ⊥) → x ≡ No → Missing (whole e) (drop at s)
+module _ (s : List ℕ) (at e most : ℕ) (x : Option (ℕ × ℕ)) (is-v : NaturalIs s (drop at s) e most x) where
+  pub positive_none : 2 ^ 63 ≤ most + 1 → at < length s → (get_or s at 0 ≡ 45 → ⊥) → x ≡ None → Missing (whole e) (drop at s)
   positive_none l h n q = record { none = none }
     where
       m : Missing (natural most e) (drop at s)
@@ -148,7 +144,7 @@ module _ (s : List ℕ) (at e most : ℕ) (x : Natural) (is-v : NaturalIs s (dro
       none (pos n) rest ok p = m.none n rest (omega arith) p
       none (negsuc m) rest ok p = n (cons_head (sym (byte_and s at h) ∙ p))
 
-  module _ (v next : ℕ) (has-v : x ≡ Is v next) (l : most < 2 ^ 63) where
+  module _ (v next : ℕ) (has-v : x ≡ Some (v, next)) (l : most < 2 ^ 63) where
     found_v : Found (natural most e) (drop at s) s v next
     found_v = subst (NaturalIs s (drop at s) e most) has-v is-v
 
@@ -176,14 +172,14 @@ minus_one_less (suc m) = ap (λ n. negsuc n) (omega arith)
 less_is : (m : ℕ) → m < 2 ^ 63 → negsuc 0 -ℤ to_z w64 m ≡ negsuc m
 less_is m h = ap (λ z. negsuc 0 -ℤ z) (to_z_pos w64 m h) ∙ minus_one_less m
 
-module _ (s l : List ℕ) (e : ℕ) (x : Natural) (is-v : NaturalIs s l e (2 ^ 63) x) where
-  pub negative_none : x ≡ No → Missing (whole e) (45 ∷ l)
+module _ (s l : List ℕ) (e : ℕ) (x : Option (ℕ × ℕ)) (is-v : NaturalIs s l e (2 ^ 63) x) where
+  pub negative_none : x ≡ None → Missing (whole e) (45 ∷ l)
   negative_none q = negatives l e (λ n rest ok p. m.none (suc n) rest ok p)
     where
       m : Missing (natural (2 ^ 63) e) l
       m = subst (NaturalIs s l e (2 ^ 63)) q is-v
 
-  module _ (v next : ℕ) (has-v : x ≡ Is v next) where
+  module _ (v next : ℕ) (has-v : x ≡ Some (v, next)) where
     found_n : Found (natural (2 ^ 63) e) l s v next
     found_n = subst (NaturalIs s l e (2 ^ 63)) has-v is-v
 
@@ -216,7 +212,7 @@ module _ (s l : List ℕ) (e : ℕ) (x : Natural) (is-v : NaturalIs s l e (2 ^ 6
           same = ap (λ n. 45 ∷ ((digits n ++ (e ∷ [])) ++ drop next s)) one_more
 
 -- ---- with a minus or not
-pub minus_there : (s : List ℕ) (at e : ℕ) (x : Whole) → at < length s → get_or s at 0 ≡ 45 → WholeIs s (45 ∷ drop (at + 1) s) e x
+pub minus_there : (s : List ℕ) (at e : ℕ) (x : Option (ℤ × ℕ)) → at < length s → get_or s at 0 ≡ 45 → WholeIs s (45 ∷ drop (at + 1) s) e x
     → WholeIs s (drop at s) e x
 minus_there s at e x h q w = subst (λ l. WholeIs s l e x) (sym (byte_and s at h ∙ ap (λ b. b ∷ drop (at + 1) s) q)) w
 

@@ -7,10 +7,10 @@ fn digit_of(d: u64) -> u8
     requires { d < 10 }
     ensures { result ≡ 48 + d }
 {
-    48 + (d as u8)
+    b'0' + d as u8
 }
 
-// A number's digits: those of the tenth, and the last.
+// A number's digits: those of the tenth, and the last. By hand, as a formatter may fail for want of room, and here there is room.
 fn number(out: &mut [u8], at: usize, v: u64) -> usize
     requires { at + length (digits v) ≤ length out.old }
     ensures { Written out.old at (digits v) out.new result }

@@ -17,8 +17,7 @@ use Rattle.dunrossel.specs.Meaning.Bench.{refused, word_text, word_size, asked, 
 use Rattle.unitary.specs.Unique.{reduce_unique, matrix_unique}
 use Rattle.normal_form.specs.Unique.{outcome_unique}
 use Rattle.clifford.proofs.Unique.{Product-unique, Inverse-unique, Split-unique}
-use Rattle.synthesis_of_clifford_t.specs.declared.Synthesis.{Synthesis}
-use Rattle.synthesis_of_clifford_t.specs.Meaning.{SpellingOf}
+use Rattle.synthesis_of_clifford_t.specs.Meaning.{Synthesis, SpellingOf}
 use Rattle.synthesis_of_clifford_t.proofs.Counted.{one_spelling}
 use Rattle.synthesis_of_clifford_t.proofs.Unique.{synthesise_unique}
 use Rattle.circuit.specs.Meaning.{Edition}

@@ -1,7 +1,7 @@
 // The library that other programs link: every job, with numbers and slices only.
 #![tactic(auto)]
 
-ghost use Rattle.std.specs.Prelude.{◌≤◌, length};
+ghost use Rattle.std.specs.Prelude.{◌≡◌, ◌≤◌, length};
 ghost use Rattle.exact.specs.Meaning.Limits.{enough};
 ghost use Rattle.exact.specs.Meaning.Lent.{lent};
 ghost use Rattle.dunrossel.specs.Meaning.Exports.{Reduces, Multiplies, Views, Counts, Rotates};
@@ -9,51 +9,94 @@ ghost use Rattle.dunrossel.specs.Meaning.Exports.{Writes, Extends, Measures, Syn
 ghost use Rattle.dunrossel.specs.Meaning.Exports.{Multiplied, Inverted, Parted};
 ghost use Rattle.dunrossel.specs.Meaning.Bench.{NumbersOutcome, BenchOutcome};
 ghost use Rattle.handed.specs.Meaning.{counts_of, steps_of};
-ghost use Rattle.record.specs.Meaning.{numbers};
+ghost use Rattle.record.specs.Meaning.{numbers, taken_record};
+ghost use Rattle.slot.specs.Meaning.{answer_of};
 ghost use Rattle.normal_form.specs.Meaning.{Normalises, DropsPhase};
 ghost use Rattle.circuit.specs.Meaning.{two, three};
 ghost use Rattle.qasm.specs.Meaning.{WriteOutcome, ReadOutcome};
 
 use clifford::Four;
+use exact::Refusal;
 use qasm::Edition;
-use record::Record;
-use ring::ZOmega;
+use ring::Triple;
 
 pub fn dunrossel_reduce(k: i64, n: u8, zw: &[i64; 8], out: &mut [i64; 10]) -> u8
     ensures { Reduces k n zw.now (result, out.new) }
 {
-    let z = handed::z_of(zw);
-    let w = handed::w_of(zw);
-    let answer = unitary::reduce(k, n, z, w);
-    let matrix = answer.matrix;
-    handed::put_ten(matrix, out);
-    answer.refusal
+    match unitary::reduce(handed::triple_of(k, n, zw)) {
+        Ok(matrix) => {
+            handed::put_ten(matrix, out);
+            exact::ACCEPTED
+        }
+        Err(refusal) => {
+            *out = [0; 10];
+            refusal.number()
+        }
+    }
 }
 
 pub fn dunrossel_matrix(word: &[u8], out: &mut [i64; 10], place: &mut u64) -> u8
     ensures { Multiplies word.now (result, (out.new, place.new)) }
 {
-    let answer = unitary::from_gates(word);
-    let matrix = answer.matrix;
-    handed::put_ten(matrix, out);
-    *place = answer.place as u64;
-    answer.refusal
+    match unitary::from_gates(word) {
+        Ok(matrix) => {
+            handed::put_ten(matrix, out);
+            *place = 0;
+            exact::ACCEPTED
+        }
+        Err(refusal) => {
+            *out = [0; 10];
+            *place = refusal.place() as u64;
+            refusal.number()
+        }
+    }
 }
 
 pub fn dunrossel_normalise(word: &[u8], buf: &mut [u8], out: &mut [u64; 3]) -> u8
     ensures { Writes Normalises word.now buf.old (result, (out.new, buf.new)) }
 {
-    let answer = normal_form::normalise(word, buf);
-    handed::put_counts(answer, out);
-    answer.refusal
+    match normal_form::normalise(word, buf) {
+        Ok(counts) => {
+            handed::put_counts(counts, out);
+            exact::ACCEPTED
+        }
+        Err(refusal) => {
+            *out = [refusal.place() as u64, 0, 0];
+            refusal.number()
+        }
+    }
 }
 
 pub fn dunrossel_phase_free(word: &[u8], buf: &mut [u8], out: &mut [u64; 3]) -> u8
     ensures { Writes DropsPhase word.now buf.old (result, (out.new, buf.new)) }
 {
-    let answer = normal_form::phase_free(word, buf);
-    handed::put_counts(answer, out);
-    answer.refusal
+    match normal_form::phase_free(word, buf) {
+        Ok(counts) => {
+            handed::put_counts(counts, out);
+            exact::ACCEPTED
+        }
+        Err(refusal) => {
+            *out = [refusal.place() as u64, 0, 0];
+            refusal.number()
+        }
+    }
+}
+
+// The length, or 0 where it is refused.
+fn put_length(answer: Result<u64, Refusal>, length: &mut u64) -> u8
+    ensures refusal { result ≡ (answer_of answer).refusal }
+    ensures length { length.new ≡ (answer_of answer).length }
+{
+    match answer {
+        Ok(bytes) => {
+            *length = bytes;
+            exact::ACCEPTED
+        }
+        Err(refusal) => {
+            *length = 0;
+            refusal.number()
+        }
+    }
 }
 
 pub fn dunrossel_slot_add(
@@ -64,17 +107,13 @@ pub fn dunrossel_slot_add(
 ) -> u8
     ensures { Extends letter syllables.old rest.old (result, (syllables.new, (rest.new, length.new))) }
 {
-    let answer = slot::add(letter, syllables, rest);
-    *length = answer.length;
-    answer.refusal
+    put_length(slot::add(letter, syllables, rest), length)
 }
 
 pub fn dunrossel_slot_length(syllables: &[u8; 4096], rest: &[u64; 6], length: &mut u64) -> u8
     ensures { Measures syllables.now rest.now (result, length.new) }
 {
-    let answer = slot::length(syllables, rest);
-    *length = answer.length;
-    answer.refusal
+    put_length(slot::length(syllables, rest), length)
 }
 
 pub fn dunrossel_clifford_product(x: &[i32; 4], y: &[i32; 4], out: &mut [i32; 4])
@@ -101,43 +140,63 @@ pub fn dunrossel_clifford_coset(x: &[i32; 4], out: &mut [i32; 5])
 pub fn dunrossel_view(k: i64, n: u8, zw: &[i64; 8], out: &mut [f64; 8]) -> u8
     ensures { Views k n zw.now (result, out.new) }
 {
-    let z = handed::z_of(zw);
-    let w = handed::w_of(zw);
-    let answer = view::view(k, n, z, w);
-    let shown = answer.view;
-    handed::put_view(shown, out);
-    answer.refusal
+    match view::view(handed::triple_of(k, n, zw)) {
+        Ok(shown) => {
+            handed::put_view(shown, out);
+            exact::ACCEPTED
+        }
+        Err(refusal) => {
+            *out = [0.0; 8];
+            refusal.number()
+        }
+    }
 }
 
 pub fn dunrossel_t_count(k: i64, n: u8, zw: &[i64; 8], tees: &mut u64) -> u8
     ensures { Counts k n zw.now (result, tees.new) }
 {
-    let z = handed::z_of(zw);
-    let w = handed::w_of(zw);
-    let answer = rotation::t_count(k, n, z, w);
-    *tees = answer.tees as u64;
-    answer.refusal
+    match rotation::t_count(handed::triple_of(k, n, zw)) {
+        Ok(count) => {
+            *tees = count as u64;
+            exact::ACCEPTED
+        }
+        Err(refusal) => {
+            *tees = 0;
+            refusal.number()
+        }
+    }
 }
 
 pub fn dunrossel_rotation(k: i64, n: u8, zw: &[i64; 8], out: &mut [i64; 19]) -> u8
     ensures { Rotates k n zw.now (result, out.new) }
 {
-    let z = handed::z_of(zw);
-    let w = handed::w_of(zw);
-    let answer = rotation::rotate(k, n, z, w);
-    let turned = answer.rotation;
-    handed::put_rotation(turned, out);
-    answer.refusal
+    match rotation::rotate(handed::triple_of(k, n, zw)) {
+        Ok(turned) => {
+            handed::put_rotation(turned, out);
+            exact::ACCEPTED
+        }
+        Err(refusal) => {
+            *out = [0; 19];
+            refusal.number()
+        }
+    }
 }
 
 pub fn dunrossel_synthesise(k: i64, n: u8, zw: &[i64; 8], buf: &mut [u8], out: &mut [u64; 3]) -> u8
     ensures { Synthesises counts_of k n zw.now buf.old (result, (out.new, buf.new)) }
 {
-    let z = handed::z_of(zw);
-    let w = handed::w_of(zw);
-    let answer = synthesis_of_clifford_t::synthesise(k, n, z, w, buf);
-    handed::put_synthesis(answer, out);
-    answer.refusal
+    let t = handed::triple_of(k, n, zw);
+    let answer = synthesis_of_clifford_t::synthesise(t, buf);
+    match answer {
+        Ok(spelt) => {
+            handed::put_synthesis(spelt, out);
+            exact::ACCEPTED
+        }
+        Err(refusal) => {
+            *out = [0; 3];
+            refusal.number()
+        }
+    }
 }
 
 pub fn dunrossel_synthesise_steps(
@@ -149,11 +208,18 @@ pub fn dunrossel_synthesise_steps(
 ) -> u8
     ensures { Synthesises steps_of k n zw.now buf.old (result, (out.new, buf.new)) }
 {
-    let z = handed::z_of(zw);
-    let w = handed::w_of(zw);
-    let counted = synthesis_of_clifford_t::synthesise(k, n, z, w, buf);
-    handed::put_steps(counted, out);
-    counted.refusal
+    let t = handed::triple_of(k, n, zw);
+    let counted = synthesis_of_clifford_t::synthesise(t, buf);
+    match counted {
+        Ok(spelt) => {
+            handed::put_steps(spelt, out);
+            exact::ACCEPTED
+        }
+        Err(refusal) => {
+            *out = [0; 4];
+            refusal.number()
+        }
+    }
 }
 
 pub fn dunrossel_qasm2_write(word: &[u8], buf: &mut [u8], out: &mut [u64; 2]) -> u8
@@ -183,41 +249,28 @@ pub fn dunrossel_qasm_read(text: &[u8], buf: &mut [u8], out: &mut [u64; 2]) -> u
 // The answer to a right record, by job 4. It stays a call: where the compiler sees whose memory the word is in, it copies it by memcpy, and the
 // archive is to need memset alone.
 #[inline(never)]
-fn answer_record(r: Record, word: &mut [u8], out: &mut [u8]) -> usize
+fn answer_record(t: Triple, word: &mut [u8], out: &mut [u8]) -> usize
     requires fact_1 { enough ≤ length word.old }
     requires fact_2 { 512 ≤ length out.old }
-    ensures { NumbersOutcome (numbers r) out.old (lent result out.new) }
+    ensures { NumbersOutcome (numbers (taken_record t)) out.old (lent result out.new) }
 {
-    let z = ZOmega {
-        a: r.za,
-        b: r.zb,
-        c: r.zc,
-        d: r.zd,
-    };
-    let w = ZOmega {
-        a: r.wa,
-        b: r.wb,
-        c: r.wc,
-        d: r.wd,
-    };
-    let answer = synthesis_of_clifford_t::synthesise(r.k, r.n, z, w, word);
-    let bytes = answer.bytes;
-    record::write(
-        answer.refusal,
-        &word[..bytes],
-        answer.tees as u64,
-        answer.steps as u64,
-        out,
-    )
+    match synthesis_of_clifford_t::synthesise(t, word) {
+        Ok(spelt) => record::write(
+            exact::ACCEPTED,
+            &word[..spelt.bytes],
+            spelt.tees as u64,
+            spelt.steps as u64,
+            out,
+        ),
+        Err(refusal) => record::write(refusal.number(), b"", 0, 0, out),
+    }
 }
 
 pub fn dunrossel_bench(text: &[u8], out: &mut [u8; 512]) -> usize
     ensures { BenchOutcome text.now out.old result out.new }
 {
-    let r = record::read(text);
-    if r.refusal != 0 {
-        return record::write(r.refusal, b"", 0, 0, out);
+    match record::read(text) {
+        Ok(t) => answer_record(t, &mut exact::word_buffer(), out),
+        Err(malformed) => record::write(malformed.number(), b"", 0, 0, out),
     }
-    let mut word = exact::word_buffer();
-    answer_record(r, &mut word, out)
 }

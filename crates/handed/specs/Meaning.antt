@@ -1,12 +1,13 @@
 -- What the arrays of the exports stand for: those that they are handed, and those that they hand back.
 use Rattle.std.specs.Prelude.{List, [], ◌∷◌, ℕ, Float, ℤ, pos, get_or}
 use Rattle.ring.specs.declared.ZOmega.{ZOmega}
+use Rattle.ring.specs.declared.Triple.{Triple}
 use Rattle.unitary.specs.declared.DOmegaUnitary.{DOmegaUnitary}
-use Rattle.normal_form.specs.declared.Written.{Written}
+use Rattle.normal_form.specs.Meaning.{Written}
 use Rattle.clifford.specs.Meaning.{axis_number}
 use Rattle.clifford.specs.declared.Clifford.{Clifford}
 use Rattle.clifford.specs.declared.Coset.{Coset}
-use Rattle.synthesis_of_clifford_t.specs.declared.Synthesis.{Synthesis}
+use Rattle.synthesis_of_clifford_t.specs.Meaning.{Synthesis}
 use Rattle.qasm.specs.declared.Written.{Written as Converted}
 use Rattle.view.specs.declared.matrix.View.{View}
 use Rattle.root_two.specs.declared.Root.{Root}
@@ -18,6 +19,9 @@ z_of zw = record { a = get_or zw 0 (pos 0); b = get_or zw 1 (pos 0); c = get_or 
 
 abbrev pub w_of : List ℤ → ZOmega
 w_of zw = record { a = get_or zw 4 (pos 0); b = get_or zw 5 (pos 0); c = get_or zw 6 (pos 0); d = get_or zw 7 (pos 0) }
+
+abbrev pub triple_of : ℤ → ℕ → List ℤ → Triple
+triple_of k n zw = record { k = k; n = n; z = z_of zw; w = w_of zw }
 
 abbrev pub ten : DOmegaUnitary → List ℤ
 ten t = pos t.k ∷ pos t.n ∷ t.z.a ∷ t.z.b ∷ t.z.c ∷ t.z.d ∷ t.w.a ∷ t.w.b ∷ t.w.c ∷ t.w.d ∷ []

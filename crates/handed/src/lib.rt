@@ -2,14 +2,16 @@
 #![tactic(auto)]
 
 ghost use Rattle.std.specs.Prelude.{◌≡◌};
-ghost use Rattle.handed.specs.Meaning.{z_of, w_of, ten, eight_of, nineteen_of, counts, counts_of, steps_of, counts_in, four_of, five_of};
+ghost use Rattle.handed.specs.Meaning.{z_of, w_of, triple_of, ten, eight_of, nineteen_of, counts, counts_of, steps_of, counts_in, four_of, five_of};
 ghost use Rattle.handed.specs.Numbers.{Wide};
+ghost use Rattle.normal_form.specs.Meaning.{written};
+ghost use Rattle.synthesis_of_clifford_t.specs.Meaning.{synthesised};
 
 use clifford::{Clifford, Coset};
-use normal_form::Written;
-use ring::ZOmega;
+use normal_form::Counts;
+use ring::{Triple, ZOmega};
 use rotation::Rotation;
-use synthesis_of_clifford_t::Synthesis;
+use synthesis_of_clifford_t::Spelt;
 use unitary::DOmegaUnitary;
 use view::matrix::View;
 
@@ -35,6 +37,17 @@ pub fn w_of(zw: &[i64; 8]) -> ZOmega
     }
 }
 
+pub fn triple_of(k: i64, n: u8, zw: &[i64; 8]) -> Triple
+    ensures { result ≡ triple_of k n zw.now }
+{
+    Triple {
+        k,
+        n,
+        z: z_of(zw),
+        w: w_of(zw),
+    }
+}
+
 fn wide(x: u8) -> i64
     ensures { Wide x result }
 {
@@ -52,10 +65,10 @@ pub fn put_ten(t: DOmegaUnitary, out: &mut [i64; 10])
     *out = numbers;
 }
 
-pub fn put_counts(answer: Written, out: &mut [u64; 3])
-    ensures { out.new ≡ counts answer }
+pub fn put_counts(c: Counts, out: &mut [u64; 3])
+    ensures { out.new ≡ counts (written (Ok c)) }
 {
-    *out = [answer.place as u64, answer.bytes as u64, answer.tees as u64];
+    *out = [0, c.bytes as u64, c.tees as u64];
 }
 
 pub fn put_clifford(q: Clifford, out: &mut [i32; 4])
@@ -95,34 +108,38 @@ pub fn put_view(v: View, out: &mut [f64; 8])
 pub fn put_rotation(r: Rotation, out: &mut [i64; 19])
     ensures { out.new ≡ nineteen_of r }
 {
-    let x = r.x;
-    let y = r.y;
-    let z = r.z;
-    let e = wide(r.e);
-    let xx = x.x;
-    let xy = x.y;
-    let xz = x.z;
-    let yx = y.x;
-    let yy = y.y;
-    let yz = y.z;
-    let zx = z.x;
-    let zy = z.y;
-    let zz = z.z;
-    let numbers = [
-        e, xx.p, xx.q, yx.p, yx.q, zx.p, zx.q, xy.p, xy.q, yy.p, yy.q, zy.p, zy.q, xz.p, xz.q,
-        yz.p, yz.q, zz.p, zz.q,
+    let Rotation { x, y, z, e } = r;
+    *out = [
+        wide(e),
+        x.x.p,
+        x.x.q,
+        y.x.p,
+        y.x.q,
+        z.x.p,
+        z.x.q,
+        x.y.p,
+        x.y.q,
+        y.y.p,
+        y.y.q,
+        z.y.p,
+        z.y.q,
+        x.z.p,
+        x.z.q,
+        y.z.p,
+        y.z.q,
+        z.z.p,
+        z.z.q,
     ];
-    *out = numbers;
 }
 
-pub fn put_synthesis(answer: Synthesis, out: &mut [u64; 3])
-    ensures { out.new ≡ counts_of answer }
+pub fn put_synthesis(answer: Spelt, out: &mut [u64; 3])
+    ensures { out.new ≡ counts_of (synthesised (Ok answer)) }
 {
     *out = [0, answer.bytes as u64, answer.tees as u64];
 }
 
-pub fn put_steps(answer: Synthesis, out: &mut [u64; 4])
-    ensures { out.new ≡ steps_of answer }
+pub fn put_steps(answer: Spelt, out: &mut [u64; 4])
+    ensures { out.new ≡ steps_of (synthesised (Ok answer)) }
 {
     *out = [
         0,

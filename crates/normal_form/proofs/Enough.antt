@@ -10,8 +10,7 @@ use Rattle.exact.proofs.Cases.Letters.{bytes_length, none_outside}
 use Rattle.exact.proofs.Outcomes.Ladder.{answered}
 use Rattle.exact.proofs.Outcomes.Lent.{handed_same}
 use Rattle.lengths.proofs.Longest.{normal_enough_lem, phase_free_enough_lem, normal_attained, phase_free_attained}
-use Rattle.normal_form.specs.declared.Written.{Written}
-use Rattle.normal_form.specs.Meaning.{Normalises, DropsPhase, refused, counts, word_refusals, WordOutcome, NormaliseOutcome, PhaseFreeOutcome}
+use Rattle.normal_form.specs.Meaning.{Written, Normalises, DropsPhase, refused, counts, word_refusals, WordOutcome, NormaliseOutcome, PhaseFreeOutcome}
 use Rattle.normal_form.specs.Unique.{normalises_single, drops_single}
 use Rattle.normal_form.specs.Theorems.{only_refused}
 use Rattle.normal_form.specs.Enough.{fits}

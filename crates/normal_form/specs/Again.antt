@@ -11,8 +11,7 @@ use Rattle.exact.proofs.Unique.PhaseFree.{phase_free_normal, phase_free_own}
 use Rattle.exact.proofs.Cases.Letters.{bytes_length}
 use Rattle.exact.proofs.Outcomes.Ladder.{Only, accepted}
 use Rattle.exact.proofs.Outcomes.Lent.{handed_same, bytes_same, text_there}
-use Rattle.normal_form.specs.declared.Written.{Written}
-use Rattle.normal_form.specs.Meaning.{Normalises, DropsPhase, refused, counts, word_refusals, WordOutcome, NormaliseOutcome, PhaseFreeOutcome}
+use Rattle.normal_form.specs.Meaning.{Written, Normalises, DropsPhase, refused, counts, word_refusals, WordOutcome, NormaliseOutcome, PhaseFreeOutcome}
 use Rattle.normal_form.specs.Unique.{normalises_single, drops_single}
 use Rattle.normal_form.specs.Theorems.{only_fits}
 

@@ -9,8 +9,7 @@ use Rattle.exact.specs.Meaning.Refusals.{long, room}
 use Rattle.exact.proofs.Outcomes.Ladder.{Only, skip, pass}
 use Rattle.exact.proofs.Outcomes.Places.{of_bytes}
 use Rattle.exact.proofs.Outcomes.Lent.{written_as}
-use Rattle.normal_form.specs.declared.Written.{Written}
-use Rattle.normal_form.specs.Meaning.{refused, counts, WordOutcome}
+use Rattle.normal_form.specs.Meaning.{Written, refused, counts, WordOutcome}
 use Rattle.normal_form.specs.Unique.{outcome_unique}
 use Rattle.normal_form.specs.Ways.{word_passes}
 

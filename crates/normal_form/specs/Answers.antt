@@ -22,8 +22,7 @@ use Rattle.writing.specs.declared.Ending.{Ending}
 use Rattle.writing.specs.Put.{Put, put_more}
 use Rattle.writing.specs.Endings.{end_word, end_size, ending_of, Ended, end_length, end_tees, text_of, text_is}
 use Rattle.writing.specs.Codes.{codes_word, held_word, bytes_append}
-use Rattle.normal_form.specs.declared.Written.{Written}
-use Rattle.normal_form.specs.Meaning.{Normalises, DropsPhase, refused, counts, WordOutcome}
+use Rattle.normal_form.specs.Meaning.{Written, Normalises, DropsPhase, refused, counts, WordOutcome}
 use Rattle.normal_form.specs.Unique.{normalises_single, drops_single}
 use Rattle.normal_form.specs.Ways.{RoomOutcome, outside_at, no_room, written_whole, answered_with}
 
@@ -126,9 +125,6 @@ module _ (w items : List ℕ) (x : Result Reading Refusal) (l : length w ≤ 409
   module _ (r : Reading) (e : x ≡ Ok r) where
     reads : Reads w items (Ok r)
     reads = subst (Reads w items) e s
-
-    pub readable : Readable items r
-    readable = record { st = run start (letters_of w); holds = reads.1 }
 
     pub count_most : r.count ≤ 4096
     count_most = omega (arith, count_few items r w (length w) whole (omega arith))

@@ -8,8 +8,7 @@ use Rattle.exact.specs.Meaning.Cheapest.{Cheapest}
 use Rattle.exact.specs.Meaning.Limits.{no_refusal}
 use Rattle.exact.proofs.Outcomes.Places.{of_bytes}
 use Rattle.exact.proofs.Unique.Cheapest.{SpelledCheapest, normal_spelled, phase_free_spelled}
-use Rattle.normal_form.specs.declared.Written.{Written}
-use Rattle.normal_form.specs.Meaning.{Normalises, DropsPhase, NormaliseOutcome, PhaseFreeOutcome}
+use Rattle.normal_form.specs.Meaning.{Written, Normalises, DropsPhase, NormaliseOutcome, PhaseFreeOutcome}
 use Rattle.normal_form.specs.Again.{answer_of_lem, counted, bytes_written}
 
 module _ (u : List Letter) {old : List ℕ} {r : Written} {new : List ℕ} where

@@ -7,8 +7,7 @@ use Rattle.exact.specs.Meaning.Lent.{lent, over}
 use Rattle.exact.proofs.Outcomes.Lent.{handed_same, bytes_same}
 use Rattle.exact.proofs.Cases.Table.{Each, each_more}
 use Rattle.exact.proofs.Cases.PhaseFree.{Freed, IsFreed, freed_words, all_freed}
-use Rattle.normal_form.specs.declared.Written.{Written}
-use Rattle.normal_form.specs.Meaning.{DropsPhase, refused, counts, PhaseFreeOutcome}
+use Rattle.normal_form.specs.Meaning.{Written, DropsPhase, refused, counts, PhaseFreeOutcome}
 use Rattle.normal_form.specs.Unique.{drops_single}
 use Rattle.normal_form.specs.Theorems.{fits, only_refused, job5_only, freed, one_T, dots}
 

@@ -8,8 +8,7 @@ use Rattle.exact.specs.Meaning.Lent.{lent}
 use Rattle.exact.proofs.Matrices.Same.{Same-sym, Same-trans}
 use Rattle.exact.proofs.Outcomes.Ladder.{Only}
 use Rattle.clifford.proofs.Words.{by_test, under, before}
-use Rattle.normal_form.specs.declared.Written.{Written}
-use Rattle.normal_form.specs.Meaning.{Normalises, DropsPhase, WordOutcome, NormaliseOutcome, PhaseFreeOutcome}
+use Rattle.normal_form.specs.Meaning.{Written, Normalises, DropsPhase, WordOutcome, NormaliseOutcome, PhaseFreeOutcome}
 use Rattle.normal_form.specs.Unique.{normalises_single, drops_single}
 use Rattle.normal_form.specs.Alike.{alike}
 

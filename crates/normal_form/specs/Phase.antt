@@ -15,8 +15,7 @@ use Rattle.exact.proofs.Outcomes.Lent.{handed_same}
 use Rattle.clifford.proofs.Words.{under, pass}
 use Rattle.reading.specs.Readings.{start, run}
 use Rattle.writing.specs.Endings.{text_of}
-use Rattle.normal_form.specs.declared.Written.{Written}
-use Rattle.normal_form.specs.Meaning.{Normalises, DropsPhase, counts, NormaliseOutcome, PhaseFreeOutcome}
+use Rattle.normal_form.specs.Meaning.{Written, Normalises, DropsPhase, counts, NormaliseOutcome, PhaseFreeOutcome}
 use Rattle.normal_form.specs.Unique.{drops_single}
 use Rattle.normal_form.specs.Theorems.{only_fits}
 use Rattle.normal_form.specs.Again.{answer_of_lem, counted, bytes_written}

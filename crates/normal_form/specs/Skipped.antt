@@ -11,8 +11,7 @@ use Rattle.exact.proofs.Cases.Outside.{third, i_first, i_third}
 use Rattle.exact.proofs.Outcomes.Ladder.{only_refused}
 use Rattle.exact.proofs.Outcomes.Places.{one_plain, one_letter}
 use Rattle.exact.proofs.Outcomes.Lent.{handed_same}
-use Rattle.normal_form.specs.declared.Written.{Written}
-use Rattle.normal_form.specs.Meaning.{refused, counts, WordOutcome}
+use Rattle.normal_form.specs.Meaning.{Written, refused, counts, WordOutcome}
 
 -- ---- where the condition of a word's refusal holds, and none before it, nothing but that refusal is allowed
 module _ (Answer : List Gate → List Gate → Type 0) (w old : List ℕ) (r : Written) (new : List ℕ) where

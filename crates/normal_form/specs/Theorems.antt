@@ -16,8 +16,7 @@ use Rattle.exact.proofs.Cases.NormalTest.{shape_of, normal_test, normal_by}
 use Rattle.exact.proofs.Cases.Table.{Row, Each, each_more, cases, Normalised, all_cases}
 use Rattle.exact.proofs.Cases.PhaseFree.{Freed, word_test, freed_test, freed_by}
 use Rattle.exact.proofs.Outcomes.Lent.{handed_same, bytes_same}
-use Rattle.normal_form.specs.declared.Written.{Written}
-use Rattle.normal_form.specs.Meaning.{Normalises, DropsPhase, refused, counts, word_refusals, WordOutcome, NormaliseOutcome, PhaseFreeOutcome}
+use Rattle.normal_form.specs.Meaning.{Written, Normalises, DropsPhase, refused, counts, word_refusals, WordOutcome, NormaliseOutcome, PhaseFreeOutcome}
 use Rattle.normal_form.specs.Unique.{normalises_single, drops_single, outcome_unique}
 use Rattle.normal_form.specs.Ways.{RoomOutcome, no_room, written_whole, answered_with}
 use Rattle.reading.specs.Readings.{start, run}

@@ -6,8 +6,7 @@ use Rattle.exact.proofs.Unique.PhaseFree.{phase_free_once}
 use Rattle.exact.proofs.Outcomes.Ladder.{Only, one_outcome}
 use Rattle.exact.proofs.Outcomes.Places.{one_plain, one_letter, one_spelled, one_normal}
 use Rattle.exact.proofs.Outcomes.Lent.{one_written}
-use Rattle.normal_form.specs.declared.Written.{Written}
-use Rattle.normal_form.specs.Meaning.{Normalises, DropsPhase, refused, counts, word_refusals, WordOutcome}
+use Rattle.normal_form.specs.Meaning.{Written, Normalises, DropsPhase, refused, counts, word_refusals, WordOutcome}
 
 -- ---- an answer is the only one
 pub normalises_single : (u : List Gate) → Only (Normalises u)

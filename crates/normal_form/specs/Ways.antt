@@ -11,8 +11,7 @@ use Rattle.exact.proofs.Outcomes.Ladder.{Only, Passed}
 use Rattle.exact.proofs.Outcomes.Places.{one_spelled}
 use Rattle.exact.proofs.Outcomes.Lent as Lent
 use Rattle.exact.proofs.Outcomes.Lent.{written_as}
-use Rattle.normal_form.specs.declared.Written.{Written}
-use Rattle.normal_form.specs.Meaning.{refused, counts, WordOutcome}
+use Rattle.normal_form.specs.Meaning.{Written, refused, counts, WordOutcome}
 
 -- by a refusal the lent bytes stay
 stays : {r : Written} {n p : ℕ} (old : List ℕ) → r ≡ refused n p → lent r old ≡ untouched refused old n p

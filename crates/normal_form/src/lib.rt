@@ -3,20 +3,19 @@
 
 ghost use Rattle.std.specs.Prelude.{◌≡◌, ◌≤◌, length};
 ghost use Rattle.reading.specs.Held.{Blank, Readable};
-ghost use Rattle.normal_form.specs.Meaning.{refused, WordOutcome, NormaliseOutcome, PhaseFreeOutcome};
+ghost use Rattle.normal_form.specs.Meaning.{written, WordOutcome, NormaliseOutcome, PhaseFreeOutcome};
 ghost use Rattle.normal_form.specs.Answers.{Answers, WritesReading};
 
+use exact::Refusal;
 use reading::table::Table;
 use reading::{EMPTY, Reading};
 use table::TABLE;
 
 mod table;
 
-// What jobs 3 and 5 hand back: the refusal or 0, its place, the bytes written and the T letters among them.
+// What jobs 3 and 5 answer beside the lent bytes: how many of them were written, and how many of those are T letters.
 #[derive(Clone, Copy)]
-pub struct Written {
-    pub refusal: u8,
-    pub place: usize,
+pub struct Counts {
     pub bytes: usize,
     pub tees: usize,
 }
@@ -26,38 +25,29 @@ pub fn reader_table() -> Table<'static> {
     Table { bytes: &TABLE }
 }
 
-fn refused(number: u8, place: usize) -> Written
-    ensures { result ≡ refused number place }
-{
-    Written {
-        refusal: number,
-        place: place,
-        bytes: 0,
-        tees: 0,
-    }
-}
-
 // The word of a reading, if there is room for it: its length and its T letters are known before a byte is written.
-fn write(table: Table, items: &[u8], r: Reading, phase: bool, buf: &mut [u8]) -> Written
+fn write(
+    table: Table,
+    items: &[u8],
+    r: Reading,
+    phase: bool,
+    buf: &mut [u8],
+) -> Result<Counts, Refusal>
     requires readable { Readable items.now r }
     requires count_few { r.count ≤ 4096 }
-    ensures { WritesReading phase items.now r buf.old result buf.new }
+    ensures { WritesReading phase items.now r buf.old (written result) buf.new }
 {
-    let tail = r.tail;
-    let count = r.count;
-    let e = writing::ending_of(table, tail, phase);
-    let n = r.bytes + e.size();
-    if n > buf.len() {
-        return refused(exact::ROOM, 0);
+    let e = writing::ending_of(table, r.tail, phase);
+    let bytes = r.bytes + e.size();
+    if bytes > buf.len() {
+        return Err(Refusal::Room);
     }
-    let at = writing::put_syllables(buf, &items[..count]);
+    let at = writing::put_syllables(buf, &items[..r.count]);
     writing::put_ending(buf, at, e);
-    Written {
-        refusal: exact::ACCEPTED,
-        place: 0,
-        bytes: n,
-        tees: count,
-    }
+    Ok(Counts {
+        bytes,
+        tees: r.count,
+    })
 }
 
 // The answer to a word, by way of an empty array with a place for each letter.
@@ -67,39 +57,36 @@ fn read_and_write(
     word: &[u8],
     phase: bool,
     buf: &mut [u8],
-) -> Written
+) -> Result<Counts, Refusal>
     requires blank { Blank items.old }
     requires places { (length word.now ≤ 4096) × (length word.now ≤ length items.old) }
-    ensures { WordOutcome (Answers phase) word.now buf.old result buf.new }
+    ensures { WordOutcome (Answers phase) word.now buf.old (written result) buf.new }
 {
-    match reading::read_word(table, items, word) {
-        Err(e) => refused(e.number(), e.place()),
-        Ok(r) => write(table, items, r, phase, buf),
-    }
+    let r = reading::read_word(table, items, word)?;
+    write(table, items, r, phase, buf)
 }
 
 // Jobs 3 and 5: with the W letters of the tail, or without.
-fn answer(word: &[u8], phase: bool, buf: &mut [u8]) -> Written
-    ensures { WordOutcome (Answers phase) word.now buf.old result buf.new }
+fn answer(word: &[u8], phase: bool, buf: &mut [u8]) -> Result<Counts, Refusal>
+    ensures { WordOutcome (Answers phase) word.now buf.old (written result) buf.new }
 {
     if word.len() > exact::LONGEST {
-        return refused(exact::LONG, 0);
+        return Err(Refusal::Long);
     }
-    let table = reader_table();
-    let mut items = [EMPTY; 4096];
-    read_and_write(table, &mut items, word, phase, buf)
+    let mut items = [EMPTY; exact::LONGEST];
+    read_and_write(reader_table(), &mut items, word, phase, buf)
 }
 
 // Job 3: the normal word with the word's matrix.
-pub fn normalise(word: &[u8], buf: &mut [u8]) -> Written
-    ensures { NormaliseOutcome word.now buf.old result buf.new }
+pub fn normalise(word: &[u8], buf: &mut [u8]) -> Result<Counts, Refusal>
+    ensures { NormaliseOutcome word.now buf.old (written result) buf.new }
 {
     answer(word, true, buf)
 }
 
 // Job 5: the same word with no W in its tail, which is I where that leaves nothing.
-pub fn phase_free(word: &[u8], buf: &mut [u8]) -> Written
-    ensures { PhaseFreeOutcome word.now buf.old result buf.new }
+pub fn phase_free(word: &[u8], buf: &mut [u8]) -> Result<Counts, Refusal>
+    ensures { PhaseFreeOutcome word.now buf.old (written result) buf.new }
 {
     answer(word, false, buf)
 }

@@ -1,14 +1,29 @@
 -- What reading a bench record hands back, and what writing its answer leaves (docs/SCOPE.md, The record).
 -- The record and its answer in bytes are crate exact's (Meaning.Record).
-use Rattle.std.specs.Prelude.{◌≡◌, List, ℕ, pos, length}
+use Rattle.std.specs.Prelude.{◌≡◌, List, ℕ, ℤ, pos, length, Result}
+use Rattle.exact.specs.declared.Refusal.{Refusal}
+use Rattle.exact.specs.Meaning.Handed.{handed}
 use Rattle.exact.specs.Meaning.Limits.{no_refusal}
 use Rattle.exact.specs.Meaning.Lent.{over}
 use Rattle.exact.specs.Meaning.Outcome.{none, ◌then◌, Outcome}
 use Rattle.exact.specs.Meaning.Record.{Numbers, RightRecord, answer_text}
 use Rattle.exact.specs.Meaning.Refusals.{malformed}
-use Rattle.record.specs.declared.Record.{Record}
+use Rattle.ring.specs.declared.Triple.{Triple}
 
--- ---- reading
+-- ---- reading: the refusal, and the numbers k, n, z and w
+pub record Record : Type 0 where
+  pub refusal : ℕ
+  pub k : ℤ
+  pub n : ℕ
+  pub za : ℤ
+  pub zb : ℤ
+  pub zc : ℤ
+  pub zd : ℤ
+  pub wa : ℤ
+  pub wb : ℤ
+  pub wc : ℤ
+  pub wd : ℤ
+
 abbrev pub numbers : Record → Numbers
 numbers r = record {
   k = r.k;
@@ -32,6 +47,25 @@ refused_record number place = record {
   wc = pos 0;
   wd = pos 0;
 }
+
+abbrev pub taken_record : Triple → Record
+taken_record t = record {
+  refusal = no_refusal;
+  k = t.k;
+  n = t.n;
+  za = t.z.a;
+  zb = t.z.b;
+  zc = t.z.c;
+  zd = t.z.d;
+  wa = t.w.a;
+  wb = t.w.b;
+  wc = t.w.c;
+  wd = t.w.d;
+}
+
+-- what is handed back
+abbrev pub record_of : Result Triple Refusal → Record
+record_of = handed refused_record taken_record
 
 -- the numbers of which the bytes are the text
 pub record Reads (s : List ℕ) (r : Record) : Type 0 where

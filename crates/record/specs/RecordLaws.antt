@@ -1,16 +1,20 @@
 -- The whole record: its text is that of its lines, which determines the numbers; two outcomes of one input are one. Assumes nothing.
-use Rattle.std.specs.Prelude.{◌≡◌, List, [], ◌∷◌, ◌++◌, ℕ, ◌-◌, ◌≤◌, ◌<◌, ℤ, length, drop}
+use Rattle.std.specs.Prelude.{◌≡◌, List, [], ◌∷◌, ◌++◌, ℕ, ◌-◌, ◌≤◌, ◌<◌, ℤ, length, drop, refl, Result, Ok, Err}
 use Rattle.std.proofs.Common.{sym, ◌∙◌, ap, ap₂, append_assoc, append-nil, arith, length-drop, drop_of_length-le}
 use Rattle.exact.specs.Meaning.Number.{Ω}
-use Rattle.exact.specs.Meaning.Outcome.{none, ◌then◌}
+use Rattle.exact.specs.declared.Refusal.{Refusal}
+use Rattle.exact.specs.Meaning.Handed.{number}
+use Rattle.exact.specs.Meaning.Limits.{record_refusal}
+use Rattle.exact.specs.Meaning.Outcome.{Rung, none, ◌then◌}
 use Rattle.exact.specs.Meaning.Record.{Numbers, RingInRange, RightRecord, digits, text, line, four, record_text}
 use Rattle.exact.specs.Meaning.Refusals.{malformed}
+use Rattle.exact.proofs.Outcomes.Handed.{number_some}
 use Rattle.exact.proofs.Outcomes.Ladder.{Only, one_outcome}
 use Rattle.exact.proofs.Outcomes.Places.{one_plain}
 use Rattle.decimal.specs.Format.{Format, Found, Missing, Once, natural, whole, once_natural, once_whole}
-use Rattle.record.specs.Meaning.{numbers, refused_record, Reads, ReadOutcome}
+use Rattle.ring.specs.declared.Triple.{Triple}
+use Rattle.record.specs.Meaning.{Record, numbers, refused_record, record_of, Reads, ReadOutcome}
 use Rattle.record.specs.Format.{Four, before, named, four_numbers, k_line, n_line, ring_line, once_named, once_both}
-use Rattle.record.specs.declared.Record.{Record}
 
 -- ---- the lines together
 abbrev pub zw_lines : Format (((Unit {0}) × Four) × ((Unit {0}) × Four))
@@ -98,6 +102,42 @@ one_read s r t p q = ap₂ build (p.taken ∙ sym q.taken) (same_lines s (number
 
 pub read_once : (s : List ℕ) (r t : Record) → ReadOutcome s r → ReadOutcome s t → r ≡ t
 read_once s = one_outcome refused_record (Reads s) (malformed s then none) (one_plain, tt) (λ h. one_read s)
+
+-- ---- what is handed back tells the result: the numbers, or refusal 8
+only_record : (e : Refusal) → number e ≡ record_refusal → e ≡ Refusal.Record
+only_record Refusal.Long h = absurd (omega arith)
+only_record (Refusal.Letter p) h = absurd (omega arith)
+only_record Refusal.Exponent h = absurd (omega arith)
+only_record Refusal.Coefficient h = absurd (omega arith)
+only_record Refusal.Unitary h = absurd (omega arith)
+only_record (Refusal.Deep p) h = absurd (omega arith)
+only_record Refusal.Room h = absurd (omega arith)
+only_record Refusal.Record h = refl
+only_record (Refusal.Statement p) h = absurd (omega arith)
+only_record (Refusal.Phase p) h = absurd (omega arith)
+only_record Refusal.Slot h = absurd (omega arith)
+only_record Refusal.Full h = absurd (omega arith)
+
+pub refused_once : (s : List ℕ) (e : Refusal) → ReadOutcome s (record_of (Err e)) → e ≡ Refusal.Record
+refused_once s e (Rung.given p h g) = only_record e (ap (λ (r : Record). r.refusal) g)
+refused_once s e (Rung.passed n x) = absurd (number_some e x.taken)
+
+triple : Record → Triple
+triple r = record {
+  k = r.k;
+  n = r.n;
+  z = record { a = r.za; b = r.zb; c = r.zc; d = r.zd };
+  w = record { a = r.wa; b = r.wb; c = r.wc; d = r.wd };
+}
+
+pub result_once : (s : List ℕ) (r t : Result Triple Refusal) → ReadOutcome s (record_of r) → ReadOutcome s (record_of t) → r ≡ t
+unfolding triple
+result_once s (Ok a) (Ok b) p q = ap (λ (x : Record). Ok (triple x)) (read_once s (record_of (Ok a)) (record_of (Ok b)) p q)
+result_once s (Ok a) (Err f) p q =
+    absurd (number_some f (sym (ap (λ (x : Record). x.refusal) (read_once s (record_of (Ok a)) (record_of (Err f)) p q))))
+result_once s (Err e) (Ok b) p q =
+    absurd (number_some e (ap (λ (x : Record). x.refusal) (read_once s (record_of (Err e)) (record_of (Ok b)) p q)))
+result_once s (Err e) (Err f) p q = ap Err (refused_once s e p ∙ sym (refused_once s f q))
 
 -- ---- the lines that are found or missing, and the record
 module _ (s : List ℕ) where

@@ -1,101 +1,51 @@
-// The record's lines: a name and `=`, then a number or four, then LF.
+// The record's lines: a name and `=`, then a number or four, then LF. What is found comes with the place behind it.
 ghost use Rattle.std.specs.Prelude.{drop};
 ghost use Rattle.record.specs.Read.{NameIs, FourIs, RingIs, KIs, NIs};
 
-use decimal::{Natural, Whole};
-
-#[derive(Clone, Copy)]
-pub(crate) enum Name {
-    Before(usize),
-    No,
-}
-
-#[derive(Clone, Copy)]
-pub(crate) enum Four {
-    Is {
-        a: i64,
-        b: i64,
-        c: i64,
-        d: i64,
-        next: usize,
-    },
-    No,
-}
+use ring::ZOmega;
 
 // The place behind a name and `=`.
-fn name_at(s: &[u8], at: usize, name: u8) -> Name
+fn name_at(s: &[u8], at: usize, name: u8) -> Option<usize>
     ensures { NameIs s.now (drop at s.now) name result }
 {
-    if at >= s.len() {
-        return Name::No;
-    }
-    if s[at] != name {
-        return Name::No;
+    if *s.get(at)? != name {
+        return None;
     }
     let equals = at + 1;
-    if equals >= s.len() {
-        return Name::No;
+    if *s.get(equals)? != b'=' {
+        return None;
     }
-    if s[equals] != b'=' {
-        return Name::No;
-    }
-    Name::Before(equals + 1)
+    Some(equals + 1)
 }
 
 // Four numbers parted by commas, and LF.
-fn four_at(s: &[u8], at: usize) -> Four
+fn four_at(s: &[u8], at: usize) -> Option<(ZOmega, usize)>
     ensures { FourIs s.now (drop at s.now) result }
 {
-    let Whole::Is {
-        value: a,
-        next: second,
-    } = decimal::whole_at(s, at, b',')
-    else {
-        return Four::No;
-    };
-    let Whole::Is {
-        value: b,
-        next: third,
-    } = decimal::whole_at(s, second, b',')
-    else {
-        return Four::No;
-    };
-    let Whole::Is {
-        value: c,
-        next: fourth,
-    } = decimal::whole_at(s, third, b',')
-    else {
-        return Four::No;
-    };
-    let Whole::Is { value: d, next } = decimal::whole_at(s, fourth, b'\n') else {
-        return Four::No;
-    };
-    Four::Is { a, b, c, d, next }
+    let (a, second) = decimal::whole_at(s, at, b',')?;
+    let (b, third) = decimal::whole_at(s, second, b',')?;
+    let (c, fourth) = decimal::whole_at(s, third, b',')?;
+    let (d, next) = decimal::whole_at(s, fourth, b'\n')?;
+    Some((ZOmega { a, b, c, d }, next))
 }
 
-pub(crate) fn ring_at(s: &[u8], at: usize, name: u8) -> Four
+pub(crate) fn ring_at(s: &[u8], at: usize, name: u8) -> Option<(ZOmega, usize)>
     ensures { RingIs s.now (drop at s.now) name result }
 {
-    let Name::Before(value) = name_at(s, at, name) else {
-        return Four::No;
-    };
+    let value = name_at(s, at, name)?;
     four_at(s, value)
 }
 
-pub(crate) fn k_at(s: &[u8], at: usize) -> Whole
+pub(crate) fn k_at(s: &[u8], at: usize) -> Option<(i64, usize)>
     ensures { KIs s.now (drop at s.now) result }
 {
-    let Name::Before(value) = name_at(s, at, b'k') else {
-        return Whole::No;
-    };
+    let value = name_at(s, at, b'k')?;
     decimal::whole_at(s, value, b'\n')
 }
 
-pub(crate) fn n_at(s: &[u8], at: usize) -> Natural
+pub(crate) fn n_at(s: &[u8], at: usize) -> Option<(u64, usize)>
     ensures { NIs s.now (drop at s.now) result }
 {
-    let Name::Before(value) = name_at(s, at, b'n') else {
-        return Natural::No;
-    };
+    let value = name_at(s, at, b'n')?;
     decimal::natural_at(s, value, b'\n', 255)
 }

@@ -1,86 +1,65 @@
 // A job on a payload, and its answer in text.
-use crate::line::{and_number, and_signed, and_text};
 use crate::slots;
 use clifford::{Clifford, Four};
-use normal_form::Written;
+use exact::Refusal;
+use normal_form::Counts;
 use qasm::Edition;
-use record::Record;
-use ring::ZOmega;
-use root_two::{Root, Vect};
-use shown::{number, text};
+use ring::{Triple, ZOmega};
+use root_two::Root;
+use rotation::Rotation;
+use shown::{numbers, text};
 use std::io;
 use std::io::Write;
 use unitary::DOmegaUnitary;
 
-fn and_ring<W: Write>(out: &mut W, x: ZOmega) -> io::Result<()> {
-    and_signed(out, x.a)?;
-    and_signed(out, x.b)?;
-    and_signed(out, x.c)?;
-    and_signed(out, x.d)
+fn ring<W: Write>(out: &mut W, x: ZOmega) -> io::Result<()> {
+    numbers(out, &[x.a, x.b, x.c, x.d])
 }
 
-fn and_matrix<W: Write>(out: &mut W, t: DOmegaUnitary) -> io::Result<()> {
-    let z = t.z;
-    let w = t.w;
-    and_number(out, t.k as u64)?;
-    and_number(out, t.n as u64)?;
-    and_ring(out, z)?;
-    and_ring(out, w)
+fn matrix<W: Write>(out: &mut W, t: DOmegaUnitary) -> io::Result<()> {
+    numbers(out, &[t.k, t.n])?;
+    ring(out, t.z)?;
+    ring(out, t.w)
 }
 
-fn z_of(r: Record) -> ZOmega {
-    ZOmega {
-        a: r.za,
-        b: r.zb,
-        c: r.zc,
-        d: r.zd,
+fn reduce<W: Write>(out: &mut W, t: Triple) -> io::Result<()> {
+    match unitary::reduce(t) {
+        Ok(reduced) => {
+            write!(out, "0")?;
+            matrix(out, reduced)
+        }
+        Err(refusal) => {
+            write!(out, "{}", refusal.number())?;
+            numbers(out, &[0; 10])
+        }
     }
-}
-
-fn w_of(r: Record) -> ZOmega {
-    ZOmega {
-        a: r.wa,
-        b: r.wb,
-        c: r.wc,
-        d: r.wd,
-    }
-}
-
-fn reduce<W: Write>(out: &mut W, r: Record) -> io::Result<()> {
-    let k = r.k;
-    let n = r.n;
-    let answer = unitary::reduce(k, n, z_of(r), w_of(r));
-    let matrix = answer.matrix;
-    number(out, answer.refusal as u64)?;
-    and_matrix(out, matrix)
 }
 
 fn from_gates<W: Write>(out: &mut W, word: &[u8]) -> io::Result<()> {
-    let answer = unitary::from_gates(word);
-    let matrix = answer.matrix;
-    number(out, answer.refusal as u64)?;
-    and_number(out, answer.place as u64)?;
-    and_matrix(out, matrix)
-}
-
-fn counts<W: Write>(out: &mut W, answer: Written) -> io::Result<()> {
-    number(out, answer.refusal as u64)?;
-    and_number(out, answer.place as u64)?;
-    and_number(out, answer.bytes as u64)?;
-    and_number(out, answer.tees as u64)
+    match unitary::from_gates(word) {
+        Ok(product) => {
+            write!(out, "0 0")?;
+            matrix(out, product)
+        }
+        Err(refusal) => {
+            write!(out, "{} {}", refusal.number(), refusal.place())?;
+            numbers(out, &[0; 10])
+        }
+    }
 }
 
 // The whole lent buffer stands behind the counts.
-fn written<W: Write>(out: &mut W, answer: Written, lent: &[u8]) -> io::Result<()> {
-    counts(out, answer)?;
-    and_text(out, lent)
+fn written<W: Write>(out: &mut W, answer: Result<Counts, Refusal>, lent: &[u8]) -> io::Result<()> {
+    match answer {
+        Ok(counts) => write!(out, "0 0 {} {} ", counts.bytes, counts.tees)?,
+        Err(refusal) => write!(out, "{} {} 0 0 ", refusal.number(), refusal.place())?,
+    }
+    text(out, lent)
 }
 
 fn circuit<W: Write>(out: &mut W, answer: qasm::Written, lent: &[u8]) -> io::Result<()> {
-    number(out, answer.refusal as u64)?;
-    and_number(out, answer.place as u64)?;
-    and_number(out, answer.bytes as u64)?;
-    and_text(out, lent)
+    write!(out, "{} {} {} ", answer.refusal, answer.place, answer.bytes)?;
+    text(out, lent)
 }
 
 fn write_circuit<W: Write>(
@@ -108,68 +87,48 @@ fn phase_free<W: Write>(out: &mut W, word: &[u8], lent: &mut [u8]) -> io::Result
     written(out, answer, lent)
 }
 
-fn synthesise<W: Write>(out: &mut W, r: Record, lent: &mut [u8]) -> io::Result<()> {
-    let k = r.k;
-    let n = r.n;
-    let answer = synthesis_of_clifford_t::synthesise(k, n, z_of(r), w_of(r), lent);
-    counts(
-        out,
-        Written {
-            refusal: answer.refusal,
-            place: 0,
-            bytes: answer.bytes,
-            tees: answer.tees,
-        },
-    )?;
-    and_number(out, answer.steps as u64)?;
-    and_text(out, lent)
+fn synthesise<W: Write>(out: &mut W, t: Triple, lent: &mut [u8]) -> io::Result<()> {
+    match synthesis_of_clifford_t::synthesise(t, lent) {
+        Ok(spelt) => write!(out, "0 0 {} {} {} ", spelt.bytes, spelt.tees, spelt.steps)?,
+        Err(refusal) => write!(out, "{} 0 0 0 0 ", refusal.number())?,
+    }
+    text(out, lent)
 }
 
-fn t_count<W: Write>(out: &mut W, r: Record) -> io::Result<()> {
-    let k = r.k;
-    let n = r.n;
-    let answer = rotation::t_count(k, n, z_of(r), w_of(r));
-    number(out, answer.refusal as u64)?;
-    and_number(out, answer.tees as u64)
+fn t_count<W: Write>(out: &mut W, t: Triple) -> io::Result<()> {
+    match rotation::t_count(t) {
+        Ok(tees) => write!(out, "0 {tees}"),
+        Err(refusal) => write!(out, "{} 0", refusal.number()),
+    }
 }
 
-fn and_root<W: Write>(out: &mut W, x: Root) -> io::Result<()> {
-    and_signed(out, x.p)?;
-    and_signed(out, x.q)
+fn row<W: Write>(out: &mut W, x: Root, y: Root, z: Root) -> io::Result<()> {
+    numbers(out, &[x.p, x.q, y.p, y.q, z.p, z.q])
 }
 
-fn and_row<W: Write>(out: &mut W, x: Root, y: Root, z: Root) -> io::Result<()> {
-    and_root(out, x)?;
-    and_root(out, y)?;
-    and_root(out, z)
+// A Rotation has columns.
+fn rows<W: Write>(out: &mut W, r: Rotation) -> io::Result<()> {
+    row(out, r.x.x, r.y.x, r.z.x)?;
+    row(out, r.x.y, r.y.y, r.z.y)?;
+    row(out, r.x.z, r.y.z, r.z.z)
 }
 
-// The three columns, row by row.
-fn and_rows<W: Write>(out: &mut W, x: Vect, y: Vect, z: Vect) -> io::Result<()> {
-    and_row(out, x.x, y.x, z.x)?;
-    and_row(out, x.y, y.y, z.y)?;
-    and_row(out, x.z, y.z, z.z)
-}
-
-fn rotate<W: Write>(out: &mut W, r: Record) -> io::Result<()> {
-    let k = r.k;
-    let n = r.n;
-    let answer = rotation::rotate(k, n, z_of(r), w_of(r));
-    let rotation = answer.rotation;
-    number(out, answer.refusal as u64)?;
-    and_number(out, rotation.e as u64)?;
-    and_rows(out, rotation.x, rotation.y, rotation.z)
+fn rotate<W: Write>(out: &mut W, t: Triple) -> io::Result<()> {
+    match rotation::rotate(t) {
+        Ok(rotation) => {
+            write!(out, "0 {}", rotation.e)?;
+            rows(out, rotation)
+        }
+        Err(refusal) => {
+            write!(out, "{}", refusal.number())?;
+            numbers(out, &[0; 19])
+        }
+    }
 }
 
 // The oracle asks for Cliffords of i32 only.
 fn narrow(x: i64) -> i32 {
-    if x < -2147483648 {
-        return 0;
-    }
-    if x > 2147483647 {
-        return 0;
-    }
-    x as i32
+    i32::try_from(x).unwrap_or(0)
 }
 
 fn four_of(x: ZOmega) -> Four {
@@ -182,56 +141,55 @@ fn four_of(x: ZOmega) -> Four {
 }
 
 fn parts<W: Write>(out: &mut W, q: Clifford) -> io::Result<()> {
-    number(out, q.a as u64)?;
-    and_number(out, q.b as u64)?;
-    and_number(out, q.c as u64)?;
-    and_number(out, q.d as u64)
+    write!(out, "{} {} {} {}", q.a, q.b, q.c, q.d)
 }
 
-fn product<W: Write>(out: &mut W, r: Record) -> io::Result<()> {
-    let x = four_of(z_of(r));
-    let y = four_of(w_of(r));
-    parts(out, clifford::clifford_product(x, y))
+fn product<W: Write>(out: &mut W, t: Triple) -> io::Result<()> {
+    parts(out, clifford::clifford_product(four_of(t.z), four_of(t.w)))
 }
 
-fn inverse<W: Write>(out: &mut W, r: Record) -> io::Result<()> {
-    parts(out, clifford::clifford_inverse(four_of(z_of(r))))
+fn inverse<W: Write>(out: &mut W, t: Triple) -> io::Result<()> {
+    parts(out, clifford::clifford_inverse(four_of(t.z)))
 }
 
-fn coset<W: Write>(out: &mut W, r: Record) -> io::Result<()> {
-    let split = clifford::clifford_split(four_of(z_of(r)));
-    number(out, u64::from(u8::from(split.axis)))?;
-    text(out, b" ")?;
+fn coset<W: Write>(out: &mut W, t: Triple) -> io::Result<()> {
+    let split = clifford::clifford_split(four_of(t.z));
+    write!(out, "{} ", u8::from(split.axis))?;
     parts(out, split.rest)
 }
 
-fn of_record<W: Write>(out: &mut W, job: u8, r: Record, lent: &mut [u8]) -> io::Result<()> {
-    if r.refusal != 0 {
-        return text(out, b"no record");
-    }
-    match job {
-        b'1' => reduce(out, r),
-        b'4' => synthesise(out, r, lent),
-        b'T' => t_count(out, r),
-        b'A' => rotate(out, r),
-        b'P' => product(out, r),
-        b'I' => inverse(out, r),
-        b'C' => coset(out, r),
-        _ => text(out, b"no job"),
+// The job of a bench record's triple.
+fn of_record<W: Write, F: FnOnce(&mut W, Triple) -> io::Result<()>>(
+    out: &mut W,
+    payload: &[u8],
+    job: F,
+) -> io::Result<()>
+    requires { F.IsAlwaysCallable job }
+{
+    match record::read(payload) {
+        Ok(t) => job(out, t),
+        Err(_) => text(out, b"no record"),
     }
 }
 
 // The payload of 2, 3, 5, Q and G is a word, that of R a circuit's text, that of S and L a slot, that of the others a bench record.
 pub fn answer<W: Write>(out: &mut W, job: u8, payload: &[u8], lent: &mut [u8]) -> io::Result<()> {
     match job {
+        b'1' => of_record(out, payload, reduce),
         b'2' => from_gates(out, payload),
         b'3' => normalise(out, payload, lent),
+        b'4' => of_record(out, payload, |out, t| synthesise(out, t, lent)),
         b'5' => phase_free(out, payload, lent),
+        b'T' => of_record(out, payload, t_count),
+        b'A' => of_record(out, payload, rotate),
+        b'P' => of_record(out, payload, product),
+        b'I' => of_record(out, payload, inverse),
+        b'C' => of_record(out, payload, coset),
         b'Q' => write_circuit(out, Edition::Two, payload, lent),
         b'G' => write_circuit(out, Edition::Three, payload, lent),
         b'R' => read_circuit(out, payload, lent),
-        b'S' => slots::answer(out, job, payload, lent.len()),
-        b'L' => slots::answer(out, job, payload, lent.len()),
-        _ => of_record(out, job, record::read(payload), lent),
+        b'S' => slots::answer(out, payload, lent.len(), slots::add),
+        b'L' => slots::answer(out, payload, lent.len(), slots::length),
+        _ => of_record(out, payload, |out, _| text(out, b"no job")),
     }
 }

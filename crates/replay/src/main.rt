@@ -2,7 +2,6 @@
 #![tactic(auto)]
 
 mod jobs;
-mod line;
 mod requests;
 mod slots;
 

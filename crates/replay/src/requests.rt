@@ -1,44 +1,28 @@
 // Requests: the head, which has the job, the room and the payload's size, and the payload with an LF behind it.
-ghost use Rattle.std.specs.Prelude.{◌<◌};
+ghost use Rattle.std.specs.Prelude.{◌<◌, ◌≡◌, ◌^◌, length};
 
 use crate::jobs;
 use std::io;
 use std::io::{Read, Write};
 
+// 0 for a byte that is no digit.
 fn digit(b: u8) -> usize
     ensures { result < 10 }
 {
-    if b < b'0' {
-        return 0;
+    match b {
+        b'0'..=b'9' => (b - b'0') as usize,
+        _ => 0,
     }
-    if b > b'9' {
-        return 0;
-    }
-    (b - b'0') as usize
 }
 
-fn five(a: u8, b: u8, c: u8, d: u8, e: u8) -> usize
+fn number(digits: &[u8; 5]) -> usize
     ensures { result < 100000 }
 {
-    let high = digit(a) * 10000 + digit(b) * 1000;
-    let low = digit(c) * 100 + digit(d) * 10 + digit(e);
-    high + low
-}
-
-// Whether all of this part of the buffer was read.
-fn filled<R: Read>(from: &mut R, buf: &mut [u8], size: usize) -> io::Result<bool> {
-    if size > buf.len() {
-        return Ok(false);
+    let mut n = 0;
+    for b in digits {
+        n = n * 10 + digit(*b);
     }
-    Ok(input::read_full(from, &mut buf[..size])? == size)
-}
-
-fn dots(lent: &mut [u8]) {
-    let mut i = 0;
-    while i < lent.len() {
-        lent[i] = b'.';
-        i += 1;
-    }
+    n
 }
 
 // The job on the payload without its LF, with so much of the buffer lent.
@@ -46,19 +30,15 @@ fn run<W: Write>(
     out: &mut W,
     job: u8,
     payload: &[u8],
-    size: usize,
     lent: &mut [u8],
     room: usize,
 ) -> io::Result<()> {
-    if size > payload.len() {
+    let Some(lent) = lent.get_mut(..room) else {
         return Ok(());
-    }
-    if room > lent.len() {
-        return Ok(());
-    }
-    dots(lent);
-    jobs::answer(out, job, &payload[..size], &mut lent[..room])?;
-    shown::text(out, b"\n")
+    };
+    lent.fill(b'.');
+    jobs::answer(out, job, payload, lent)?;
+    writeln!(out)
 }
 
 // Whether there was a request.
@@ -69,16 +49,19 @@ fn one<R: Read, W: Write>(
     lent: &mut [u8],
 ) -> io::Result<bool> {
     let mut head = [0u8; 14];
-    if input::read_full(from, &mut head)? < 14 {
+    if input::read_full(from, &mut head)? < head.len() {
         return Ok(false);
     }
-    let job = head[0];
-    let room = five(head[2], head[3], head[4], head[5], head[6]);
-    let size = five(head[8], head[9], head[10], head[11], head[12]);
-    if !filled(from, payload, size + 1)? {
+    let [job, _, a, b, c, d, e, _, f, g, h, i, j, _] = head;
+    let room = number(&[a, b, c, d, e]);
+    let size = number(&[f, g, h, i, j]);
+    let Some(payload) = payload.get_mut(..size + 1) else {
+        return Ok(false);
+    };
+    if input::read_full(from, payload)? <= size {
         return Ok(false);
     }
-    run(out, job, payload, size, lent, room)?;
+    run(out, job, &payload[..size], lent, room)?;
     Ok(true)
 }
 
@@ -88,12 +71,10 @@ pub fn all<R: Read, W: Write>(
     payload: &mut [u8],
     lent: &mut [u8],
 ) -> io::Result<()> {
-    let mut left: usize = 1000000;
-    while left > 0 {
+    for _ in 0..1000000 {
         if !one(from, out, payload, lent)? {
-            return Ok(());
+            break;
         }
-        left -= 1;
     }
     Ok(())
 }

@@ -5,3 +5,4 @@ pub mod Code
 pub mod Parities
 pub mod Divided
 pub mod Trailing
+pub mod Display

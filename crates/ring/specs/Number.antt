@@ -1,5 +1,5 @@
 -- The size of a machine's ring number, and what a turn and a sign make of it. Assumes nothing.
-use Rattle.std.specs.Prelude.{◌≡◌, List, [], ◌∷◌, ℕ, ◌-◌, ◌^◌, ◌≤◌, ◌<◌, ℤ, pos, nat_abs, ◌-ℤ◌}
+use Rattle.std.specs.Prelude.{◌≡◌, List, [], ◌∷◌, ℕ, zero, suc, ◌+◌, ◌-◌, ◌^◌, ◌≤◌, ◌<◌, ℤ, pos, nat_abs, ◌-ℤ◌}
 use Rattle.std.proofs.Common.{sym, ◌∙◌, ap, arith, SFits, to_z-of_z}
 use Rattle.std.specs.Int.{w64}
 use Rattle.exact.specs.Meaning.Number.{Quad, Ω, ints, quads, power, neg_q, mul_q, conj_q, omega', omega^, Sized}
@@ -97,3 +97,15 @@ module _ (x : ZOmega) (m : ℕ) where
       → quad r ≡ mul_q ints (omega^ (8 - m)) (quad x)
   power_thrice y z r h k l few n₀ n₁ n₂ =
       power_at (quad x) m 3 (omega arith) (l ∙ ap (mul_q ints (omega^ 7)) (twice y z h k) ∙ turned_thrice (quad x))
+
+-- ---- y being x by the inverse i times, z is x by it once more
+pub power_more : (x y z : ZOmega) (i : ℕ) → quad y ≡ mul_q ints (omega^ (8 - i)) (quad x) → Back y z → i < 3
+    → quad z ≡ mul_q ints (omega^ (8 - (i + 1))) (quad x)
+power_more x y z zero e h l = h ∙ ap (mul_q ints (omega^ 7)) (e ∙ sym (turned_whole (quad x)))
+power_more x y z (suc zero) e h l = h ∙ ap (mul_q ints (omega^ 7)) e ∙ turned_twice (quad x)
+power_more x y z (suc (suc zero)) e h l = h ∙ ap (mul_q ints (omega^ 7)) e ∙ turned_thrice (quad x)
+power_more x y z (suc (suc (suc i))) e h l = absurd (omega arith)
+
+pub power_whole : (x y : ZOmega) (m i : ℕ) → quad y ≡ mul_q ints (omega^ (8 - i)) (quad x) → i ≤ m → m ≤ i
+    → quad y ≡ mul_q ints (omega^ (8 - m)) (quad x)
+power_whole x y m i e l h = power_at (quad x) m i (omega arith) e

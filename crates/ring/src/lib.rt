@@ -1,6 +1,8 @@
 // Ring numbers a·omega^3 + b·omega^2 + c·omega + d with 64-bit coefficients, after src/ring in the Rust.
 #![tactic(auto)]
 
+mod display;
+
 ghost use Rattle.std.specs.Prelude.{◌≡◌, ◌+◌, ◌^◌, ◌-◌, ◌≤◌, ◌<◌, T, nat_abs};
 ghost use Rattle.exact.specs.Meaning.Number.{Sized};
 ghost use Rattle.exact.specs.Meaning.Number.{ints, add_q, neg_q, mul_q, conj_q, omega', omega^, root2, root2^, bit, residue};
@@ -36,29 +38,22 @@ pub fn odd(x: i64) -> bool
     x & 1 != 0
 }
 
-// Without its sign; -2^63 has one too.
-fn magnitude(x: i64) -> u64
-    ensures { result ≡ nat_abs x }
-{
-    if x < 0 { (-1 - x) as u64 + 1 } else { x as u64 }
-}
-
 // How often 2 divides it, and 0 for 0.
 pub fn ntz(x: i64) -> u8
     ensures { Zeros x result }
 {
-    let size = magnitude(x);
+    let size = x.unsigned_abs();
     if size == 0 {
         return 0;
     }
-    u64::trailing_zeros(size) as u8
+    size.trailing_zeros() as u8
 }
 
 // The parity as a number.
 fn parity(x: i64) -> u8
     ensures { (result ≡ bit (Meaning.odd x)) × (result ≤ 1) }
 {
-    if odd(x) { 1 } else { 0 }
+    u8::from(odd(x))
 }
 
 impl ZOmega {
@@ -67,19 +62,11 @@ impl ZOmega {
         requires fact_2 { Small o }
         ensures { quad result ≡ add_q ints (quad self) (quad o) }
     {
-        let a = self.a;
-        let b = self.b;
-        let c = self.c;
-        let d = self.d;
-        let e = o.a;
-        let f = o.b;
-        let g = o.c;
-        let h = o.d;
         ZOmega {
-            a: a + e,
-            b: b + f,
-            c: c + g,
-            d: d + h,
+            a: self.a + o.a,
+            b: self.b + o.b,
+            c: self.c + o.c,
+            d: self.d + o.d,
         }
     }
 
@@ -88,19 +75,11 @@ impl ZOmega {
         requires fact_2 { Small o }
         ensures { quad result ≡ add_q ints (quad self) (neg_q ints (quad o)) }
     {
-        let a = self.a;
-        let b = self.b;
-        let c = self.c;
-        let d = self.d;
-        let e = o.a;
-        let f = o.b;
-        let g = o.c;
-        let h = o.d;
         ZOmega {
-            a: a - e,
-            b: b - f,
-            c: c - g,
-            d: d - h,
+            a: self.a - o.a,
+            b: self.b - o.b,
+            c: self.c - o.c,
+            d: self.d - o.d,
         }
     }
 
@@ -108,15 +87,11 @@ impl ZOmega {
         requires { Small self }
         ensures { quad result ≡ mul_q ints (omega' ints) (quad self) }
     {
-        let a = self.a;
-        let b = self.b;
-        let c = self.c;
-        let d = self.d;
         ZOmega {
-            a: b,
-            b: c,
-            c: d,
-            d: -a,
+            a: self.b,
+            b: self.c,
+            c: self.d,
+            d: -self.a,
         }
     }
 
@@ -124,15 +99,11 @@ impl ZOmega {
         requires { Small self }
         ensures { quad result ≡ conj_q ints (quad self) }
     {
-        let a = self.a;
-        let b = self.b;
-        let c = self.c;
-        let d = self.d;
         ZOmega {
-            a: -c,
-            b: -b,
-            c: -a,
-            d: d,
+            a: -self.c,
+            b: -self.b,
+            c: -self.a,
+            d: self.d,
         }
     }
 
@@ -142,19 +113,11 @@ impl ZOmega {
         requires fact_2 { Sized (2 ^ 30) (quad o) }
         ensures { quad result ≡ mul_q ints (quad self) (quad o) }
     {
-        let a = self.a;
-        let b = self.b;
-        let c = self.c;
-        let d = self.d;
-        let e = o.a;
-        let f = o.b;
-        let g = o.c;
-        let h = o.d;
         ZOmega {
-            a: a * h + b * g + c * f + d * e,
-            b: b * h + c * g + d * f - a * e,
-            c: c * h + d * g - (a * f + b * e),
-            d: d * h - (a * g + b * f + c * e),
+            a: self.a * o.d + self.b * o.c + self.c * o.b + self.d * o.a,
+            b: self.b * o.d + self.c * o.c + self.d * o.b - self.a * o.a,
+            c: self.c * o.d + self.d * o.c - (self.a * o.b + self.b * o.a),
+            d: self.d * o.d - (self.a * o.c + self.b * o.b + self.c * o.a),
         }
     }
 
@@ -163,22 +126,14 @@ impl ZOmega {
         requires { Sized (2 ^ 30) (quad self) }
         ensures { result ≡ squares ints (quad self) }
     {
-        let a = self.a;
-        let b = self.b;
-        let c = self.c;
-        let d = self.d;
-        a * a + b * b + c * c + d * d
+        self.a * self.a + self.b * self.b + self.c * self.c + self.d * self.d
     }
 
     pub fn crosses(self) -> i64
         requires { Sized (2 ^ 30) (quad self) }
         ensures { result ≡ crosses ints (quad self) }
     {
-        let a = self.a;
-        let b = self.b;
-        let c = self.c;
-        let d = self.d;
-        a * b + b * c + c * d - d * a
+        self.a * self.b + self.b * self.c + self.c * self.d - self.d * self.a
     }
 
     // Whether root two divides it.
@@ -186,22 +141,14 @@ impl ZOmega {
         requires { Small self }
         ensures { result ≡ divides (quad self) }
     {
-        let a = self.a;
-        let b = self.b;
-        let c = self.c;
-        let d = self.d;
-        !odd(b + d) && !odd(c + a)
+        !odd(self.b + self.d) && !odd(self.c + self.a)
     }
 
     // Its trailing zeros are those that the four coefficients have in common.
     pub fn common(self) -> i64
         ensures { Shares (quad self) result }
     {
-        let a = self.a;
-        let b = self.b;
-        let c = self.c;
-        let d = self.d;
-        a | b | c | d
+        self.a | self.b | self.c | self.d
     }
 
     // Divided by root two.
@@ -210,15 +157,11 @@ impl ZOmega {
         requires fact_2 { T (divides (quad self)) }
         ensures { mul_q ints (root2 ints) (quad result) ≡ quad self }
     {
-        let a = self.a;
-        let b = self.b;
-        let c = self.c;
-        let d = self.d;
         ZOmega {
-            a: (b - d) >> 1,
-            b: (c + a) >> 1,
-            c: (b + d) >> 1,
-            d: (c - a) >> 1,
+            a: (self.b - self.d) >> 1,
+            b: (self.c + self.a) >> 1,
+            c: (self.b + self.d) >> 1,
+            d: (self.c - self.a) >> 1,
         }
     }
 
@@ -229,15 +172,11 @@ impl ZOmega {
         requires fact_3 { Multiple m (quad self) }
         ensures { mul_q ints (root2^ (m + m)) (quad result) ≡ quad self }
     {
-        let a = self.a;
-        let b = self.b;
-        let c = self.c;
-        let d = self.d;
         ZOmega {
-            a: a >> m,
-            b: b >> m,
-            c: c >> m,
-            d: d >> m,
+            a: self.a >> m,
+            b: self.b >> m,
+            c: self.c >> m,
+            d: self.d >> m,
         }
     }
 
@@ -245,15 +184,11 @@ impl ZOmega {
         requires { Small self }
         ensures { quad result ≡ neg_q ints (quad self) }
     {
-        let a = self.a;
-        let b = self.b;
-        let c = self.c;
-        let d = self.d;
         ZOmega {
-            a: -a,
-            b: -b,
-            c: -c,
-            d: -d,
+            a: -self.a,
+            b: -self.b,
+            c: -self.c,
+            d: -self.d,
         }
     }
 
@@ -262,30 +197,18 @@ impl ZOmega {
         requires { Small self }
         ensures { result ≡ residue (quad self) }
     {
-        let a = self.a;
-        let b = self.b;
-        let c = self.c;
-        let d = self.d;
-        let p = parity(a);
-        let q = parity(b);
-        let r = parity(c);
-        let s = parity(d);
-        p * 8 + q * 4 + r * 2 + s
+        parity(self.a) * 8 + parity(self.b) * 4 + parity(self.c) * 2 + parity(self.d)
     }
 
     fn mul_by_omega_inv(self) -> ZOmega
         requires { Small self }
         ensures { quad result ≡ mul_q ints (omega^ 7) (quad self) }
     {
-        let a = self.a;
-        let b = self.b;
-        let c = self.c;
-        let d = self.d;
         ZOmega {
-            a: -d,
-            b: a,
-            c: b,
-            d: c,
+            a: -self.d,
+            b: self.a,
+            c: self.b,
+            d: self.c,
         }
     }
 
@@ -295,17 +218,10 @@ impl ZOmega {
         requires fact_2 { m < 4 }
         ensures { quad result ≡ mul_q ints (omega^ (8 - m)) (quad self) }
     {
-        if m == 0 {
-            return self;
+        let mut turned = self;
+        for _ in 0..m {
+            turned = turned.mul_by_omega_inv();
         }
-        let x = self.mul_by_omega_inv();
-        if m == 1 {
-            return x;
-        }
-        let y = x.mul_by_omega_inv();
-        if m == 2 {
-            return y;
-        }
-        y.mul_by_omega_inv()
+        turned
     }
 }

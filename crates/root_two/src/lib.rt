@@ -13,13 +13,15 @@ ghost use Rattle.root_two.specs.Meaning.{root, vect};
 ghost use Rattle.root_two.specs.Code.{Addable, Subtractable};
 ghost use Rattle.root_two.specs.Common.{Common, SharesP, SharesQ};
 
-#[derive(Clone, Copy)]
+use std::ops::{Add, Neg, Sub};
+
+#[derive(Clone, Copy, Default)]
 pub struct Root {
     pub p: i64,
     pub q: i64,
 }
 
-#[derive(Clone, Copy)]
+#[derive(Clone, Copy, Default)]
 pub struct Vect {
     pub x: Root,
     pub y: Root,
@@ -33,46 +35,61 @@ pub fn common(a: i64, b: i64, c: i64) -> i64
     a | b | c
 }
 
+impl Add for Root {
+    type Output = Root;
+
+    ghost can_add = { λ x y. Addable (root x) (root y) };
+
+    ghost add_gives = { λ x y r. root r ≡ add_r ints (root x) (root y) };
+
+    fn add(self, o: Root) -> Root {
+        Root {
+            p: self.p + o.p,
+            q: self.q + o.q,
+        }
+    }
+}
+
+impl Sub for Root {
+    type Output = Root;
+
+    ghost can_sub = { λ x y. Subtractable (root x) (root y) };
+
+    ghost sub_gives = { λ x y r. root r ≡ sub_r ints (root x) (root y) };
+
+    fn sub(self, o: Root) -> Root {
+        Root {
+            p: self.p - o.p,
+            q: self.q - o.q,
+        }
+    }
+}
+
+impl Neg for Root {
+    type Output = Root;
+
+    ghost can_neg = { λ x. Up (2 ^ 62) (root x) };
+
+    ghost neg_gives = { λ x r. root r ≡ neg_r ints (root x) };
+
+    fn neg(self) -> Root {
+        Root {
+            p: -self.p,
+            q: -self.q,
+        }
+    }
+}
+
 impl Root {
-    pub fn add(self, o: Root) -> Root
-        requires { Addable (root self) (root o) }
-        ensures { root result ≡ add_r ints (root self) (root o) }
-    {
-        let a = self.p;
-        let b = self.q;
-        let c = o.p;
-        let d = o.q;
-        Root { p: a + c, q: b + d }
-    }
-
-    pub fn sub(self, o: Root) -> Root
-        requires { Subtractable (root self) (root o) }
-        ensures { root result ≡ sub_r ints (root self) (root o) }
-    {
-        let a = self.p;
-        let b = self.q;
-        let c = o.p;
-        let d = o.q;
-        Root { p: a - c, q: b - d }
-    }
-
-    pub fn neg(self) -> Root
-        requires { Up (2 ^ 62) (root self) }
-        ensures { root result ≡ neg_r ints (root self) }
-    {
-        let a = self.p;
-        let b = self.q;
-        Root { p: -a, q: -b }
-    }
-
     // Times root two.
     fn times(self) -> Root
         requires { Up (2 ^ 61) (root self) }
         ensures { root result ≡ times_r ints (root self) }
     {
-        let a = self.p;
-        let b = self.q;
-        Root { p: b + b, q: a }
+        Root {
+            p: self.q + self.q,
+            q: self.p,
+        }
     }
 
     // Divided by root two to the n: by root two an odd number of times, p and q change places.
@@ -81,64 +98,63 @@ impl Root {
         requires fact_2 { DividesR n (root self) }
         ensures { lift_r n (root result) ≡ root self }
     {
-        let a = self.p;
-        let b = self.q;
         let m = n / 2;
         if n % 2 == 0 {
-            return Root {
-                p: a >> m,
-                q: b >> m,
-            };
+            Root {
+                p: self.p >> m,
+                q: self.q >> m,
+            }
+        } else {
+            Root {
+                p: self.q >> m,
+                q: self.p >> (m + 1),
+            }
         }
-        Root {
-            p: b >> m,
-            q: a >> (m + 1),
+    }
+}
+
+impl Add for Vect {
+    type Output = Vect;
+
+    ghost can_add = { λ v w. UpV (2 ^ 60) (vect v) × UpV (2 ^ 60) (vect w) };
+
+    ghost add_gives = { λ v w r. vect r ≡ add_v ints (vect v) (vect w) };
+
+    fn add(self, o: Vect) -> Vect {
+        Vect {
+            x: self.x + o.x,
+            y: self.y + o.y,
+            z: self.z + o.z,
+        }
+    }
+}
+
+impl Neg for Vect {
+    type Output = Vect;
+
+    ghost can_neg = { λ v. UpV (2 ^ 60) (vect v) };
+
+    ghost neg_gives = { λ v r. vect r ≡ neg_v ints (vect v) };
+
+    fn neg(self) -> Vect {
+        Vect {
+            x: -self.x,
+            y: -self.y,
+            z: -self.z,
         }
     }
 }
 
 impl Vect {
-    pub fn add(self, o: Vect) -> Vect
-        requires fact_1 { UpV (2 ^ 60) (vect self) }
-        requires fact_2 { UpV (2 ^ 60) (vect o) }
-        ensures { vect result ≡ add_v ints (vect self) (vect o) }
-    {
-        let a = self.x;
-        let b = self.y;
-        let c = self.z;
-        let d = o.x;
-        let e = o.y;
-        let f = o.z;
-        let x = a.add(d);
-        let y = b.add(e);
-        let z = c.add(f);
-        Vect { x: x, y: y, z: z }
-    }
-
-    pub fn neg(self) -> Vect
-        requires { UpV (2 ^ 60) (vect self) }
-        ensures { vect result ≡ neg_v ints (vect self) }
-    {
-        let a = self.x;
-        let b = self.y;
-        let c = self.z;
-        let x = a.neg();
-        let y = b.neg();
-        let z = c.neg();
-        Vect { x: x, y: y, z: z }
-    }
-
     pub fn times(self) -> Vect
         requires { UpV (2 ^ 60) (vect self) }
         ensures { vect result ≡ times_v ints (vect self) }
     {
-        let a = self.x;
-        let b = self.y;
-        let c = self.z;
-        let x = a.times();
-        let y = b.times();
-        let z = c.times();
-        Vect { x: x, y: y, z: z }
+        Vect {
+            x: self.x.times(),
+            y: self.y.times(),
+            z: self.z.times(),
+        }
     }
 
     pub fn over(self, n: u8) -> Vect
@@ -146,37 +162,21 @@ impl Vect {
         requires fact_2 { DividesV n (vect self) }
         ensures { lift n (vect result) ≡ vect self }
     {
-        let a = self.x;
-        let b = self.y;
-        let c = self.z;
-        let x = a.over(n);
-        let y = b.over(n);
-        let z = c.over(n);
-        Vect { x: x, y: y, z: z }
+        Vect {
+            x: self.x.over(n),
+            y: self.y.over(n),
+            z: self.z.over(n),
+        }
     }
 
-    // The three p's, and the three q's.
-    pub fn wholes(self) -> i64
-        ensures { SharesP (vect self) result }
+    // Of the three p's, and of the three q's.
+    pub fn common(self) -> Root
+        ensures p { SharesP (vect self) result.p }
+        ensures q { SharesQ (vect self) result.q }
     {
-        let x = self.x;
-        let y = self.y;
-        let z = self.z;
-        let a = x.p;
-        let b = y.p;
-        let c = z.p;
-        common(a, b, c)
-    }
-
-    pub fn roots(self) -> i64
-        ensures { SharesQ (vect self) result }
-    {
-        let x = self.x;
-        let y = self.y;
-        let z = self.z;
-        let a = x.q;
-        let b = y.q;
-        let c = z.q;
-        common(a, b, c)
+        Root {
+            p: common(self.x.p, self.y.p, self.z.p),
+            q: common(self.x.q, self.y.q, self.z.q),
+        }
     }
 }

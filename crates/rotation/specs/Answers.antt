@@ -23,9 +23,7 @@ use Rattle.ring.specs.Meaning.{quad}
 use Rattle.ring.specs.declared.ZOmega.{ZOmega}
 use Rattle.unitary.specs.Meaning.{given}
 use Rattle.unitary.specs.Checks.{exponent_size}
-use Rattle.rotation.specs.declared.Answer.{Answer}
-use Rattle.rotation.specs.declared.Count.{Count}
-use Rattle.rotation.specs.Meaning.{axes_of, rotation_of, refused, AnswersRotation, RotationOutcome, refused_count, AnswersCount, CountOutcome}
+use Rattle.rotation.specs.Meaning.{Answer, Count, axes_of, rotation_of, refused, AnswersRotation, RotationOutcome, refused_count, AnswersCount, CountOutcome}
 use Rattle.rotation.specs.Unique.{count_unique}
 
 module _ (k : ℤ) (n : ℕ) (z w : ZOmega) where

@@ -86,38 +86,43 @@ pub record Normed (z w : Ω) : Type 0 where
   pub w_sized : Sized (2 ^ 30) w
   pub up : Up (2 ^ 62) (norms ints z w)
 
-module _ (z w : ZOmega) (h : Normed (quad z) (quad w)) (a b c d : ℤ) (a-is : a ≡ squares ints (quad z)) (b-is : b ≡ squares ints (quad w))
-    (c-is : c ≡ crosses ints (quad z)) (d-is : d ≡ crosses ints (quad w)) where
-  a_small : nat_abs a ≤ 2 ^ 62
-  a_small = rw a-is (squares_size (quad z) h.z_sized)
+module _ (z w : ZOmega) (h : Normed (quad z) (quad w)) where
+  module _ (a b : ℤ) (a-is : a ≡ squares ints (quad z)) (b-is : b ≡ squares ints (quad w)) where
+    a_small : nat_abs a ≤ 2 ^ 62
+    a_small = rw a-is (squares_size (quad z) h.z_sized)
 
-  b_small : nat_abs b ≤ 2 ^ 62
-  b_small = rw b-is (squares_size (quad w) h.w_sized)
+    b_small : nat_abs b ≤ 2 ^ 62
+    b_small = rw b-is (squares_size (quad w) h.w_sized)
 
-  c_small : nat_abs c ≤ 2 ^ 62
-  c_small = rw c-is (crosses_size (quad z) h.z_sized)
+    p_small : nat_abs (a -ℤ b) ≤ 2 ^ 62
+    p_small = rw (a-is, b-is) h.up.p_small
 
-  d_small : nat_abs d ≤ 2 ^ 62
-  d_small = rw d-is (crosses_size (quad w) h.w_sized)
+    pub squares_less : SFits w64 (held w64 a -ℤ held w64 b)
+    squares_less = difference_fits a b a_small b_small p_small
 
-  p_small : nat_abs (a -ℤ b) ≤ 2 ^ 62
-  p_small = rw (a-is, b-is) h.up.p_small
+    p_is : held w64 (held w64 a -ℤ held w64 b) ≡ squares ints (quad z) -ℤ squares ints (quad w)
+    p_is = difference_held a b a_small b_small p_small ∙ ap₂ ◌-ℤ◌ a-is b-is
 
-  q_small : nat_abs (c -ℤ d) ≤ 2 ^ 62
-  q_small = rw (c-is, d-is) h.up.q_small
+  module _ (c d : ℤ) (c-is : c ≡ crosses ints (quad z)) (d-is : d ≡ crosses ints (quad w)) where
+    c_small : nat_abs c ≤ 2 ^ 62
+    c_small = rw c-is (crosses_size (quad z) h.z_sized)
 
-  pub squares_less : SFits w64 (held w64 a -ℤ held w64 b)
-  squares_less = difference_fits a b a_small b_small p_small
+    d_small : nat_abs d ≤ 2 ^ 62
+    d_small = rw d-is (crosses_size (quad w) h.w_sized)
 
-  pub crosses_less : SFits w64 (held w64 c -ℤ held w64 d)
-  crosses_less = difference_fits c d c_small d_small q_small
+    q_small : nat_abs (c -ℤ d) ≤ 2 ^ 62
+    q_small = rw (c-is, d-is) h.up.q_small
 
-  pub norms_is : ◌≡◌ {A = Exact.Root ℤ} (record { p = held w64 (held w64 a -ℤ held w64 b); q = held w64 (held w64 c -ℤ held w64 d) })
+    pub crosses_less : SFits w64 (held w64 c -ℤ held w64 d)
+    crosses_less = difference_fits c d c_small d_small q_small
+
+    q_is : held w64 (held w64 c -ℤ held w64 d) ≡ crosses ints (quad z) -ℤ crosses ints (quad w)
+    q_is = difference_held c d c_small d_small q_small ∙ ap₂ ◌-ℤ◌ c-is d-is
+
+  pub norms_is : (a b c d : ℤ) → a ≡ squares ints (quad z) → b ≡ squares ints (quad w) → c ≡ crosses ints (quad z) → d ≡ crosses ints (quad w)
+      → ◌≡◌ {A = Exact.Root ℤ} (record { p = held w64 (held w64 a -ℤ held w64 b); q = held w64 (held w64 c -ℤ held w64 d) })
       (norms ints (quad z) (quad w))
-  norms_is =
-      root_path
-      (difference_held a b a_small b_small p_small ∙ ap₂ ◌-ℤ◌ a-is b-is)
-      (difference_held c d c_small d_small q_small ∙ ap₂ ◌-ℤ◌ c-is d-is)
+  norms_is a b c d a-is b-is c-is d-is = root_path (p_is a b a-is b-is) (q_is c d c-is d-is)
 
 -- ---- squares: naively at most 2^62
 module _ (x : ZOmega) (s : Sized (2 ^ 30) (quad x)) where

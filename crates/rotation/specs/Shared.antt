@@ -6,7 +6,7 @@ use Rattle.exact.specs.Meaning.Rotation.{Root, Three, Vect, lift}
 use Rattle.exact.proofs.Whole.Machine.{held}
 use Rattle.exact.specs.Whole.Twos.{TwoTo, Zeros}
 use Rattle.exact.proofs.Whole.Twos.{less_often}
-use Rattle.root_two.specs.Common.{Common, SharesP, SharesQ, common_back}
+use Rattle.root_two.specs.Common.{Common, SharesP, SharesQ}
 use Rattle.exact.specs.Algebra.RootPower.{DividesR}
 use Rattle.exact.specs.Rotation.Least.{DividesV, Divides, Deepest, lifts}
 use Rattle.root_two.specs.Meaning.{vect}
@@ -45,27 +45,25 @@ NineP = Nine (λ r. r.p)
 abbrev pub NineQ : Three (Vect ℤ) → ℤ → Type 0
 NineQ = Nine (λ r. r.q)
 
--- a, b and c share what the columns do, and r what a, b and c share, as they are read back
+-- a, b and c share what the columns do, and r what a, b and c share
 module _ (part : Root ℤ → ℤ) (m : Three (Vect ℤ)) (a b c r : ℤ)
     (x : Common (part m.x.x) (part m.x.y) (part m.x.z) a)
     (y : Common (part m.y.x) (part m.y.y) (part m.y.z) b)
-    (z : Common (part m.z.x) (part m.z.y) (part m.z.z) c)
-    (fa : SFits w64 a) (fb : SFits w64 b) (fc : SFits w64 c) (fr : SFits w64 r) where
-  nine : Common (held w64 a) (held w64 b) (held w64 c) r → Nine part m (held w64 r)
-  nine k =
-      let h = common_back a b c r fa fb fc fr k in
+    (z : Common (part m.z.x) (part m.z.y) (part m.z.z) c) where
+  nine : Common a b c r → Nine part m r
+  nine h =
       record {
         each = λ j l t. let s = h.each j l t in (x.each j l s.0, (y.each j l s.1.0, z.each j l s.1.1));
         all = λ j l f g k.
             h.all j l (x.all j l f.0 f.1.0 f.1.1) (y.all j l g.0 g.1.0 g.1.1) (z.all j l k.0 k.1.0 k.1.1);
       }
 
-module _ (m : Three (Vect ℤ)) (a b c r : ℤ) (fa : SFits w64 a) (fb : SFits w64 b) (fc : SFits w64 c) (fr : SFits w64 r) where
-  pub nine_p : SharesP m.x a → SharesP m.y b → SharesP m.z c → Common (held w64 a) (held w64 b) (held w64 c) r → NineP m (held w64 r)
-  nine_p x y z = nine (λ r. r.p) m a b c r x y z fa fb fc fr
+module _ (m : Three (Vect ℤ)) (a b c r : ℤ) where
+  pub nine_p : SharesP m.x a → SharesP m.y b → SharesP m.z c → Common a b c r → NineP m r
+  nine_p = nine (λ r. r.p) m a b c r
 
-  pub nine_q : SharesQ m.x a → SharesQ m.y b → SharesQ m.z c → Common (held w64 a) (held w64 b) (held w64 c) r → NineQ m (held w64 r)
-  nine_q x y z = nine (λ r. r.q) m a b c r x y z fa fb fc fr
+  pub nine_q : SharesQ m.x a → SharesQ m.y b → SharesQ m.z c → Common a b c r → NineQ m r
+  nine_q = nine (λ r. r.q) m a b c r
 
 module _ (m : Three (Vect ℤ)) (f i j : ℕ) (few : f ≤ 121) (P Q : ℤ)
     (p : Nine (λ r. r.p) m P) (q : Nine (λ r. r.q) m Q) (p-twos : TwosIn P i) (q-twos : TwosIn Q j) where

@@ -1,7 +1,7 @@
 -- A rotation turned about Z beforehand, as the machine does it: what n eighths make of it, and that this is the rotation of the triple with n. Assumes
 -- nothing.
 use Rattle.std.specs.Prelude.{◌≡◌, refl, ℕ, zero, suc, ◌+◌, ◌/◌, ◌%◌, ◌^◌, ◌≤◌, ◌<◌, ℤ}
-use Rattle.std.proofs.Common.{sym, ◌∙◌, ap, subst, arith}
+use Rattle.std.proofs.Common.{sym, ◌∙◌, ap, subst, add-one, arith}
 use Rattle.exact.specs.Meaning.Number.{Ω, ints}
 use Rattle.exact.specs.Meaning.Triple.{entries, Unitary}
 use Rattle.exact.specs.Meaning.Rotation.{Three, Vect, add_v, times_v, Rotation, RotationOf}
@@ -72,6 +72,11 @@ module _ (n : ℕ) (s : Declared.Rotation) where
 
     pub done_3 : n < 4 → (n ≡ 0 → ⊥) → (n ≡ 1 → ⊥) → (n ≡ 2 → ⊥) → (t : Declared.Rotation) → Once r t → Done t
     done_3 l a b c t m = at 3 (omega (arith, a, b, c)) {r = t} (more 2 r t (more 1 q r h k) m)
+
+-- one more quarter
+pub quarter_more : (i : ℕ) (s q r : Declared.Rotation) → rotation_of q ≡ record { m = quarters i (axes_of s); e = s.e } → Once q r
+    → rotation_of r ≡ record { m = quarters (i + 1) (axes_of s); e = s.e }
+quarter_more i s q r h k = rw (add-one i) (k ∙ ap (λ t. record { m = quarter ints t.m; e = t.e }) h)
 
 -- ---- r is s turned by n eighths beforehand
 pub record Turned (n : ℕ) (s r : Rotation) : Type 0 where

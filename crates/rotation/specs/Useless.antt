@@ -22,9 +22,7 @@ use Rattle.ring.specs.declared.ZOmega.{ZOmega}
 use Rattle.unitary.specs.Meaning.{given}
 use Rattle.root_two.specs.declared.Vect.{Vect}
 use Rattle.rotation.specs.declared.Rotation.{Rotation}
-use Rattle.rotation.specs.declared.Answer.{Answer}
-use Rattle.rotation.specs.declared.Count.{Count}
-use Rattle.rotation.specs.Meaning.{refused, AnswersRotation, RotationOutcome, refused_count, AnswersCount, CountOutcome}
+use Rattle.rotation.specs.Meaning.{Answer, Count, refused, AnswersRotation, RotationOutcome, refused_count, AnswersCount, CountOutcome}
 use Rattle.rotation.specs.Unique.{rotation_unique, count_unique}
 
 -- ---- HT: z = 1, w = 1, n = 5, k = 1

@@ -10,6 +10,7 @@ ghost use Rattle.rotation.specs.Columns.{HasParts, Twiced, Normed, XFits, YFits,
 use crate::Rotation;
 use ring::ZOmega;
 use root_two::{Root, Vect};
+use unitary::DOmegaUnitary;
 
 // Real and imaginary part.
 #[derive(Clone, Copy)]
@@ -22,10 +23,7 @@ fn square(x: ZOmega) -> Parts
     requires { Sized (2 ^ 30) (quad x) }
     ensures { HasParts (square_re ints (quad x)) (square_im ints (quad x)) result }
 {
-    let a = x.a;
-    let b = x.b;
-    let c = x.c;
-    let d = x.d;
+    let ZOmega { a, b, c, d } = x;
     let re = Root {
         p: d * d - b * b - a * c - a * c,
         q: c * d - a * b - a * d - b * c,
@@ -34,7 +32,7 @@ fn square(x: ZOmega) -> Parts
         p: c * c - a * a + b * d + b * d,
         q: c * d - a * b + a * d + b * c,
     };
-    Parts { re: re, im: im }
+    Parts { re, im }
 }
 
 // Twice the parts of a product.
@@ -42,13 +40,10 @@ fn twice(x: ZOmega) -> Parts
     requires { Twiced (quad x) }
     ensures { HasParts (twice_re ints (quad x)) (twice_im ints (quad x)) result }
 {
-    let a = x.a;
-    let b = x.b;
-    let c = x.c;
-    let d = x.d;
+    let ZOmega { a, b, c, d } = x;
     let re = Root { p: d + d, q: c - a };
     let im = Root { p: b + b, q: c + a };
-    Parts { re: re, im: im }
+    Parts { re, im }
 }
 
 // z·z* - w·w*
@@ -56,11 +51,10 @@ fn norm_difference(z: ZOmega, w: ZOmega) -> Root
     requires { Normed (quad z) (quad w) }
     ensures { root result ≡ norms ints (quad z) (quad w) }
 {
-    let a = z.squares();
-    let b = w.squares();
-    let c = z.crosses();
-    let d = w.crosses();
-    Root { p: a - b, q: c - d }
+    Root {
+        p: z.squares() - w.squares(),
+        q: z.crosses() - w.crosses(),
+    }
 }
 
 // From the squares of z and w, and twice their product.
@@ -68,67 +62,49 @@ fn x_becomes(s: Parts, t: Parts, m: Parts) -> Vect
     requires { XFits s t m }
     ensures { vect result ≡ x_of s t m }
 {
-    let a = s.re;
-    let b = s.im;
-    let c = t.re;
-    let d = t.im;
-    let e = m.re;
-    let minus = b.neg();
-    let x = a.sub(c);
-    let y = minus.sub(d);
-    let z = e.neg();
-    Vect { x: x, y: y, z: z }
+    Vect {
+        x: s.re - t.re,
+        y: -s.im - t.im,
+        z: -m.re,
+    }
 }
 
 fn y_becomes(s: Parts, t: Parts, m: Parts) -> Vect
     requires { YFits s t m }
     ensures { vect result ≡ y_of s t m }
 {
-    let a = s.re;
-    let b = s.im;
-    let c = t.re;
-    let d = t.im;
-    let e = m.im;
-    let x = b.sub(d);
-    let y = a.add(c);
-    let z = e.neg();
-    Vect { x: x, y: y, z: z }
+    Vect {
+        x: s.im - t.im,
+        y: s.re + t.re,
+        z: -m.im,
+    }
 }
 
 fn z_becomes(z: ZOmega, w: ZOmega) -> Vect
     requires { Held (quad z) (quad w) }
     ensures { vect result ≡ (columns ints (quad z) (quad w)).z }
 {
-    let conj = z.conj();
-    let product = conj.mul(w);
-    let m = twice(product);
-    let norm = norm_difference(z, w);
-    let a = m.re;
-    let b = m.im;
+    let m = twice(z.conj().mul(w));
     Vect {
-        x: a,
-        y: b,
-        z: norm,
+        x: m.re,
+        y: m.im,
+        z: norm_difference(z, w),
     }
 }
 
 // Over root two to the 2k.
-pub(crate) fn columns(k: u8, z: ZOmega, w: ZOmega) -> Rotation
-    requires fact_1 { k ≤ 60 }
-    requires fact_2 { Held (quad z) (quad w) }
-    ensures { rotation_of result ≡ record { m = columns ints (quad z) (quad w); e = k + k } }
+pub(crate) fn columns(t: DOmegaUnitary) -> Rotation
+    requires fact_1 { t.k ≤ 60 }
+    requires fact_2 { Held (quad t.z) (quad t.w) }
+    ensures { rotation_of result ≡ record { m = columns ints (quad t.z) (quad t.w); e = t.k + t.k } }
 {
-    let s = square(z);
-    let t = square(w);
-    let product = z.mul(w);
-    let m = twice(product);
-    let x = x_becomes(s, t, m);
-    let y = y_becomes(s, t, m);
-    let z_to = z_becomes(z, w);
+    let z = square(t.z);
+    let w = square(t.w);
+    let m = twice(t.z.mul(t.w));
     Rotation {
-        x: x,
-        y: y,
-        z: z_to,
-        e: k + k,
+        x: x_becomes(z, w, m),
+        y: y_becomes(z, w, m),
+        z: z_becomes(t.z, t.w),
+        e: t.k + t.k,
     }
 }

@@ -1,53 +1,31 @@
 // How often root two divides all nine entries of a rotation, and a rotation divided by it.
-ghost use Rattle.std.specs.Prelude.{◌≡◌, ◌≤◌, min};
+ghost use Rattle.std.specs.Prelude.{◌≤◌};
 ghost use Rattle.exact.specs.Rotation.Least.{Divides, Deepest};
 ghost use Rattle.rotation.specs.Meaning.{axes_of};
 ghost use Rattle.rotation.specs.Shared.{TwosIn, NineP, NineQ, Lowered};
 
 use crate::Rotation;
-use root_two::common;
+use root_two::{Root, Vect};
 
 // How often 2 divides it, and 64 for 0, which any power divides.
 fn twos(x: i64) -> u8
     ensures { TwosIn x result }
 {
-    if x == 0 {
-        return 64;
-    }
-    ring::ntz(x)
-}
-
-// The lower of two.
-fn lower(a: u8, b: u8) -> u8
-    ensures { result ≡ min a b }
-{
-    if a < b { a } else { b }
+    if x == 0 { 64 } else { ring::ntz(x) }
 }
 
 impl Rotation {
-    // Their trailing zeros are those that the nine p's, and the nine q's, have in common.
-    fn wholes(self) -> i64
-        ensures { NineP (axes_of self) result }
+    // Its p has the trailing zeros that the nine p's have in common, and its q those of the nine q's.
+    fn common(self) -> Root
+        ensures p { NineP (axes_of self) result.p }
+        ensures q { NineQ (axes_of self) result.q }
     {
-        let x = self.x;
-        let y = self.y;
-        let z = self.z;
-        let a = x.wholes();
-        let b = y.wholes();
-        let c = z.wholes();
-        common(a, b, c)
-    }
-
-    fn roots(self) -> i64
-        ensures { NineQ (axes_of self) result }
-    {
-        let x = self.x;
-        let y = self.y;
-        let z = self.z;
-        let a = x.roots();
-        let b = y.roots();
-        let c = z.roots();
-        common(a, b, c)
+        let columns = Vect {
+            x: self.x.common(),
+            y: self.y.common(),
+            z: self.z.common(),
+        };
+        columns.common()
     }
 
     // At most the exponent. Of p + q·root two an even power of root two is told by p, an odd one by q.
@@ -55,13 +33,10 @@ impl Rotation {
         requires { self.e ≤ 121 }
         ensures { Deepest self.e (axes_of self) result }
     {
-        let e = self.e;
-        let wholes = self.wholes();
-        let roots = self.roots();
-        let p_twos = twos(wholes);
-        let q_twos = twos(roots);
-        let n = lower(2 * p_twos, 2 * q_twos + 1);
-        lower(n, e)
+        let common = self.common();
+        let by_p = 2 * twos(common.p);
+        let by_q = 2 * twos(common.q) + 1;
+        by_p.min(by_q).min(self.e)
     }
 
     pub(crate) fn over(self, n: u8) -> Rotation
@@ -70,18 +45,11 @@ impl Rotation {
         requires fact_3 { Divides n (axes_of self) }
         ensures { Lowered n self result }
     {
-        let a = self.x;
-        let b = self.y;
-        let c = self.z;
-        let e = self.e;
-        let x = a.over(n);
-        let y = b.over(n);
-        let z = c.over(n);
         Rotation {
-            x: x,
-            y: y,
-            z: z,
-            e: e - n,
+            x: self.x.over(n),
+            y: self.y.over(n),
+            z: self.z.over(n),
+            e: self.e - n,
         }
     }
 }

@@ -14,16 +14,11 @@ impl Rotation {
         requires { UpC (2 ^ 60) (axes_of self) }
         ensures { rotation_of result ≡ record { m = quarter ints (axes_of self); e = self.e } }
     {
-        let a = self.x;
-        let b = self.y;
-        let c = self.z;
-        let e = self.e;
-        let minus = a.neg();
         Rotation {
-            x: b,
-            y: minus,
-            z: c,
-            e: e,
+            x: self.y,
+            y: -self.x,
+            z: self.z,
+            e: self.e,
         }
     }
 
@@ -32,19 +27,11 @@ impl Rotation {
         requires fact_2 { self.e < 255 }
         ensures { rotation_of result ≡ record { m = eighth ints (axes_of self); e = self.e + 1 } }
     {
-        let a = self.x;
-        let b = self.y;
-        let c = self.z;
-        let e = self.e;
-        let minus = a.neg();
-        let x = a.add(b);
-        let y = b.add(minus);
-        let z = c.times();
         Rotation {
-            x: x,
-            y: y,
-            z: z,
-            e: e + 1,
+            x: self.x + self.y,
+            y: self.y + -self.x,
+            z: self.z.times(),
+            e: self.e + 1,
         }
     }
 
@@ -54,18 +41,11 @@ impl Rotation {
         requires fact_2 { n < 4 }
         ensures { rotation_of result ≡ record { m = quarters n (axes_of self); e = self.e } }
     {
-        if n == 0 {
-            return self;
+        let mut r = self;
+        for _ in 0..n {
+            r = r.quarter();
         }
-        let once = self.quarter();
-        if n == 1 {
-            return once;
-        }
-        let twice = once.quarter();
-        if n == 2 {
-            return twice;
-        }
-        twice.quarter()
+        r
     }
 
     pub(crate) fn turned(self, n: u8) -> Rotation
@@ -75,9 +55,6 @@ impl Rotation {
     {
         let m = n % 8;
         let r = self.quarters(m / 2);
-        if m % 2 == 0 {
-            return r;
-        }
-        r.eighth()
+        if m % 2 == 0 { r } else { r.eighth() }
     }
 }

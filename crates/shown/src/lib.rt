@@ -1,10 +1,11 @@
-// What the case programs write: text, numbers, and signed numbers.
+// What the programs write beside `write!`: bytes as they are, a number, and numbers in a row.
 #![tactic(auto)]
 
-ghost use Rattle.std.specs.Prelude.{OnOk};
+ghost use Rattle.std.specs.Prelude.{OnOk, IfSome};
 ghost use Rattle.std.specs.Io.KnownBytes.{Appends};
-ghost use Rattle.std.specs.Fmt.{decimal, signed_decimal};
+ghost use Rattle.shown.specs.Row.{row};
 
+use std::fmt::Display;
 use std::io;
 use std::io::Write;
 
@@ -14,22 +15,20 @@ pub fn text<W: Write>(out: &mut W, s: &[u8]) -> io::Result<()>
     out.write_all(s)
 }
 
-pub fn number<W: Write>(out: &mut W, x: u64) -> io::Result<()>
-    ensures { OnOk result (Appends (W.contents out.old) (W.contents out.new) (decimal x)) }
+// A number of any size, with its sign if it is below 0.
+pub fn number<W: Write, T: Display + Drop>(out: &mut W, x: T) -> io::Result<()>
+    ensures { OnOk result (IfSome (T.output x) (Appends (W.contents out.old) (W.contents out.new))) }
 {
     write!(out, "{x}")
 }
 
-// The sign is written before the size; the least number has a size that no i64 holds.
-pub fn signed<W: Write>(out: &mut W, x: i64) -> io::Result<()>
-    ensures { OnOk result (Appends (W.contents out.old) (W.contents out.new) (signed_decimal x)) }
+// A blank before each.
+pub fn numbers<W: Write, T: Display + Copy>(out: &mut W, xs: &[T]) -> io::Result<()>
+    ensures { OnOk result (IfSome (row T.output xs.now) (Appends (W.contents out.old) (W.contents out.new))) }
 {
-    if x < 0 {
-        text(out, b"-")?;
-        let above = x + 1;
-        let less = 0 - above;
-        number(out, less as u64 + 1)
-    } else {
-        number(out, x as u64)
+    for x in xs {
+        text(out, b" ")?;
+        number(out, *x)?;
     }
+    Ok(())
 }

@@ -9,8 +9,7 @@ use Rattle.exact.proofs.Matrices.Same.{Same-sym}
 use Rattle.exact.proofs.Unique.Cheapest.{SpelledCheapest, normal_spelled}
 use Rattle.ring.specs.declared.ZOmega.{ZOmega}
 use Rattle.unitary.specs.Meaning.{given}
-use Rattle.synthesis_of_clifford_t.specs.declared.Synthesis.{Synthesis}
-use Rattle.synthesis_of_clifford_t.specs.Meaning.{text, counts, SpellingOf, asked, SynthesiseOutcome}
+use Rattle.synthesis_of_clifford_t.specs.Meaning.{Synthesis, text, counts, SpellingOf, asked, SynthesiseOutcome}
 use Rattle.synthesis_of_clifford_t.proofs.OneMatrix.{seen, answer_there, seen_is}
 
 module _ (k : ℤ) (n : ℕ) (z w : ZOmega) (old : List ℕ) (r : Synthesis) (new : List ℕ) (o : SynthesiseOutcome k n z w old r new)

@@ -20,8 +20,7 @@ use Rattle.ring.specs.declared.ZOmega.{ZOmega}
 use Rattle.unitary.specs.Checks.{exponent_size}
 use Rattle.steps.proofs.Synthesised.{reduce_ready}
 use Rattle.steps.proofs.Counts.{answer_enough}
-use Rattle.synthesis_of_clifford_t.specs.declared.Synthesis.{Synthesis}
-use Rattle.synthesis_of_clifford_t.specs.Meaning.{text, refused, counts, SpellingOf, asked, refusals, SynthesiseOutcome}
+use Rattle.synthesis_of_clifford_t.specs.Meaning.{Synthesis, text, refused, counts, SpellingOf, asked, refusals, SynthesiseOutcome}
 
 pub answer_short : (k : ℤ) (n : ℕ) (z w : Ω) → Taken k z w → (v : List Letter) → NormalOf (entries (handed_in k n z w)) v → length v ≤ enough
 answer_short k n z w taken v a =

@@ -10,3 +10,4 @@ pub mod Enough
 pub mod OneMatrix
 pub mod Cheapest
 pub mod Useless
+pub mod Results

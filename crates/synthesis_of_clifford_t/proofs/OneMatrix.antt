@@ -20,8 +20,7 @@ use Rattle.steps.specs.Meaning.{Takes}
 use Rattle.steps.specs.Step.{Ready}
 use Rattle.steps.proofs.Followed.{takes_few}
 use Rattle.steps.proofs.Exactly.{takes_0001, takes_1010, takes_under}
-use Rattle.synthesis_of_clifford_t.specs.declared.Synthesis.{Synthesis}
-use Rattle.synthesis_of_clifford_t.specs.Meaning.{Spelling, text, refused, counts, SpellingOf, asked, refusals, SynthesiseOutcome}
+use Rattle.synthesis_of_clifford_t.specs.Meaning.{Synthesis, Spelling, text, refused, counts, SpellingOf, asked, refusals, SynthesiseOutcome}
 use Rattle.synthesis_of_clifford_t.proofs.Counted.{answer_ready, steps_from, spelling_moved, one_spelling}
 
 -- what is handed back, and the bytes that were written

@@ -16,10 +16,8 @@ use Rattle.unitary.specs.Acts.{Good}
 use Rattle.writing.specs.Put.{Put, put_none, put_length, put_more}
 use Rattle.exact.proofs.Cases.Letters.{bytes_length}
 use Rattle.writing.specs.Codes.{bytes_append}
-use Rattle.synthesis_of_clifford_t.specs.declared.Reduction as declared
-use Rattle.synthesis_of_clifford_t.specs.declared.Reduction.TheVariants as variants
 use Rattle.steps.specs.Meaning.{power}
-use Rattle.steps.specs.Step.{Stepped, reduction, block, next}
+use Rattle.steps.specs.Step.{Ended, Stepped, reduction, block, next}
 use Rattle.steps.proofs.Step.{power_few}
 use Rattle.steps.specs.Closing.{closing}
 use Rattle.steps.specs.Steps.{left, letters, steps}
@@ -28,7 +26,6 @@ use Rattle.steps.proofs.Counts.{block_length}
 use Rattle.steps.proofs.Synthesised.{reduction_stepped}
 use Rattle.synthesis_of_clifford_t.proofs.Loop.{Progress, progress_start, progress_step, progress_room}
 use Rattle.synthesis_of_clifford_t.proofs.Loop.{progress_letters, progress_steps, progress_length}
-use Rattle.synthesis_of_clifford_t.specs.Code.{answer_of}
 use Rattle.synthesis_of_clifford_t.proofs.CodeLaws.{good_ready}
 
 -- ---- a block, T^m·H with S for TT
@@ -112,6 +109,17 @@ module _ (buf : List ℕ) (a : ℕ) (h : a ≤ length buf) where
       none : drop (length buf - a) (drop a buf) ≡ []
       none = Post-is a (length buf) buf h ∙ drop-length buf
 
+-- ---- no step, where k is 0
+reduction_ended : (t : Triple) → t.k ≡ 0 → reduction t ≡ Ended
+reduction_ended t e = ap (λ k. elim k [ zero ↦ Ended | suc k ↦ Stepped (power t) (next t) ]) e
+
+pub ended : (t : Triple) → Ended ≡ reduction t → t.k ≤ 0
+ended t e = go t.k refl
+  where
+    go : (k : ℕ) → t.k ≡ k → k ≤ 0
+    go zero f = omega arith
+    go (suc k) f = cc (e, reduction_stepped t k f)
+
 -- ---- what the loop keeps: from t with the buffer old to u in so many steps, with the letters so far in buf
 pub record Writing (old : List ℕ) (t : DOmegaUnitary) (buf : List ℕ) (u : DOmegaUnitary) (len count : ℕ) : Type 0 where
   pub written : List Letter
@@ -174,57 +182,56 @@ module _ {old : List ℕ} {t : DOmegaUnitary} {buf : List ℕ} {u : DOmegaUnitar
   pub block_fits : (m : ℕ) (rest : List ℕ) (r : ℕ) → Put (free buf len) 0 (bytes (block m)) rest r → Fits w64 (len + r)
   block_fits m rest r p = more_fits (block m) rest r p (omega (arith, (block_length m).1))
 
-  -- ---- a step
-  module _ (some : 0 < u.k) (x : declared.Reduction) (is : answer_of x ≡ reduction (triple u)) where
+  -- ---- a step, where k is over 0
+  module _ (m : ℕ) (s : DOmegaUnitary) (is : Stepped m (triple s) ≡ reduction (triple u)) where
+    some : 0 < u.k
+    some = go u.k refl
+      where
+        go : (k : ℕ) → u.k ≡ k → 0 < k
+        go zero e = cc (is, reduction_ended (triple u) e)
+        go (suc k) e = omega arith
+
     k_is : u.k ≡ suc (u.k - 1)
-    k_is = omega arith
+    k_is = omega (arith, some)
 
-    stepped : answer_of x ≡ Stepped (power (triple u)) (next (triple u))
-    stepped = is ∙ reduction_stepped (triple u) (u.k - 1) k_is
+    both : Stepped m (triple s) ≡ Stepped (power (triple u)) (next (triple u))
+    both = is ∙ reduction_stepped (triple u) (u.k - 1) k_is
 
-    -- it exists
-    pub not_ended : x ≡ variants.Ended → ⊥
-    not_ended e = let clash : ◌≡◌ {A = ℕ} 0 1 = cc (stepped, ap answer_of e) in omega arith
+    m_is : m ≡ power (triple u)
+    m_is = cc both
 
-    module _ (m : ℕ) (s : DOmegaUnitary) (e : x ≡ variants.Step m s) where
-      both : Stepped m (triple s) ≡ Stepped (power (triple u)) (next (triple u))
-      both = sym (ap answer_of e) ∙ stepped
+    s_is : triple s ≡ next (triple u)
+    s_is = cc both
 
-      m_is : m ≡ power (triple u)
-      m_is = cc both
+    pub step_few : m < 4
+    step_few = omega (arith, m_is, power_few (triple u))
 
-      s_is : triple s ≡ next (triple u)
-      s_is = cc both
+    pub step_nearer : left (triple s) < left (triple u)
+    step_nearer = subst (λ (y : Triple). left y < left (triple u)) (sym s_is) (left_next (triple u) (u.k - 1) w.progress.ready k_is)
 
-      pub step_few : m < 4
-      step_few = omega (arith, m_is, power_few (triple u))
+    pub step_room : length (block m) ≤ length (free buf len)
+    step_room =
+        omega (
+          arith,
+          (block_length m).1,
+          free_length buf len len_inside,
+          buf_length,
+          w.room,
+          len_is,
+          progress_room w.progress some,
+          w.few,
+        )
 
-      pub step_nearer : left (triple s) < left (triple u)
-      step_nearer = subst (λ (y : Triple). left y < left (triple u)) (sym s_is) (left_next (triple u) (u.k - 1) w.progress.ready k_is)
-
-      pub step_room : length (block m) ≤ length (free buf len)
-      step_room =
-          omega (
-            arith,
-            (block_length m).1,
-            free_length buf len len_inside,
-            buf_length,
-            w.room,
-            len_is,
-            progress_room w.progress some,
-            w.few,
-          )
-
-      pub step_writing : (rest : List ℕ) (r : ℕ)
-          → Put (free buf len) 0 (bytes (block m)) rest r
-          → Writing old t (filled buf len rest) s (len + r) (count + 1)
-      step_writing rest r p = record {
-        written = w.written ++ block m;
-        progress = rw (s_is, m_is) (progress_step w.progress (u.k - 1) k_is);
-        few = w.few;
-        room = w.room;
-        put = more (block m) rest r p;
-      }
+    pub step_writing : (rest : List ℕ) (r : ℕ)
+        → Put (free buf len) 0 (bytes (block m)) rest r
+        → Writing old t (filled buf len rest) s (len + r) (count + 1)
+    step_writing rest r p = record {
+      written = w.written ++ block m;
+      progress = rw (s_is, m_is) (progress_step w.progress (u.k - 1) k_is);
+      few = w.few;
+      room = w.room;
+      put = more (block m) rest r p;
+    }
 
   -- ---- the end
   module _ (end : u.k ≤ 0) where

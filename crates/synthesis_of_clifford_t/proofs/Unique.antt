@@ -5,8 +5,7 @@ use Rattle.exact.proofs.Outcomes.Ladder.{one_outcome}
 use Rattle.exact.proofs.Outcomes.Places.{one_plain}
 use Rattle.exact.proofs.Outcomes.Lent.{one_written}
 use Rattle.ring.specs.declared.ZOmega.{ZOmega}
-use Rattle.synthesis_of_clifford_t.specs.declared.Synthesis.{Synthesis}
-use Rattle.synthesis_of_clifford_t.specs.Meaning.{text, refused, counts, SpellingOf, asked, refusals, SynthesiseOutcome}
+use Rattle.synthesis_of_clifford_t.specs.Meaning.{Synthesis, text, refused, counts, SpellingOf, asked, refusals, SynthesiseOutcome}
 use Rattle.synthesis_of_clifford_t.proofs.Counted.{one_spelling}
 
 module _ (k : ℤ) (n : ℕ) (z w : ZOmega) (old : List ℕ) where

@@ -18,14 +18,13 @@ use Rattle.exact.proofs.Outcomes.Lent.{handed_same}
 use Rattle.ring.specs.Meaning.{quad}
 use Rattle.ring.specs.declared.ZOmega.{ZOmega}
 use Rattle.unitary.specs.Meaning.{given}
-use Rattle.synthesis_of_clifford_t.specs.declared.Synthesis.{Synthesis}
 use Rattle.steps.specs.Meaning.{power_by, power}
 use Rattle.steps.specs.Residues.{back}
 use Rattle.steps.specs.Step.{block, next}
 use Rattle.steps.specs.Closing.{closing}
 use Rattle.steps.specs.Steps.{gathered, letters, steps}
 use Rattle.steps.proofs.Synthesised.{reduce_ready}
-use Rattle.synthesis_of_clifford_t.specs.Meaning.{Spelling, text, refused, counts, SpellingOf, asked, refusals, SynthesiseOutcome}
+use Rattle.synthesis_of_clifford_t.specs.Meaning.{Synthesis, Spelling, text, refused, counts, SpellingOf, asked, refusals, SynthesiseOutcome}
 use Rattle.synthesis_of_clifford_t.proofs.Counted.{steps_of, steps_moved, one_spelling}
 use Rattle.synthesis_of_clifford_t.proofs.Unique.{synthesise_unique}
 use Rattle.synthesis_of_clifford_t.proofs.OneMatrix.{steps_refused}

@@ -3,8 +3,7 @@ use Rattle.std.specs.Prelude.{List, ℕ}
 use Rattle.exact.specs.Meaning.Triple.{Triple, entries}
 use Rattle.exact.specs.Meaning.Lent.{lent}
 use Rattle.exact.proofs.Outcomes.Lent.{Written}
-use Rattle.synthesis_of_clifford_t.specs.declared.Synthesis.{Synthesis}
-use Rattle.synthesis_of_clifford_t.specs.Meaning.{text, refused, counts, SpellingOf}
+use Rattle.synthesis_of_clifford_t.specs.Meaning.{Synthesis, text, refused, counts, SpellingOf}
 
 -- the normal word of a reduced triple and its steps, where there is room for the word
 abbrev pub AnsweredBy : Triple → List ℕ → Synthesis → List ℕ → Type 0

@@ -1,10 +1,10 @@
 -- The step in code: what each function on the way hands on, and that the answer is the case of the definition `reduction`. Assumes nothing.
+use Rattle.std.specs.Prelude.{ℕ, Option, Some, None}
+use Rattle.unitary.specs.declared.DOmegaUnitary.{DOmegaUnitary}
 use Rattle.unitary.specs.Meaning.{triple}
-use Rattle.synthesis_of_clifford_t.specs.declared.Reduction as declared
-use Rattle.synthesis_of_clifford_t.specs.declared.Reduction.TheVariants as variants
 use Rattle.steps.specs.Step.{Reduction, Ended, Stepped}
 
 -- a reduction's answer as the definition has it
-abbrev pub answer_of : declared.Reduction → Reduction
-answer_of (variants.Step m t) = Stepped m (triple t)
-answer_of variants.Ended = Ended
+abbrev pub answer_of : Option (ℕ × DOmegaUnitary) → Reduction
+answer_of (Some s) = Stepped s.0 (triple s.1)
+answer_of None = Ended

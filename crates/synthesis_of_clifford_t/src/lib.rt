@@ -15,19 +15,19 @@ ghost use Rattle.steps.specs.Residues.{bit_count, falls_by};
 ghost use Rattle.steps.specs.Step.{block, reduction};
 ghost use Rattle.steps.specs.Closing.{closing};
 ghost use Rattle.steps.specs.Steps.{letters, steps};
-ghost use Rattle.synthesis_of_clifford_t.specs.Meaning.{refused, SynthesiseOutcome};
+ghost use Rattle.synthesis_of_clifford_t.specs.Meaning.{synthesised, SynthesiseOutcome};
 ghost use Rattle.synthesis_of_clifford_t.specs.Code.{answer_of};
 ghost use Rattle.synthesis_of_clifford_t.specs.Closes.{sign_of, closing_by, Closes};
 ghost use Rattle.synthesis_of_clifford_t.specs.Answer.{AnsweredBy};
 
-use ring::ZOmega;
+use exact::Refusal;
+use ring::{Triple, ZOmega};
 use unitary::DOmegaUnitary;
 use writing::Ending;
 
-// What job 4 hands back: the refusal or 0, the bytes written, the T letters among them, and the steps that were taken.
+// What job 4 answers beside the lent bytes: how many of them were written, how many of those are T letters, and in how many steps.
 #[derive(Clone, Copy)]
-pub struct Synthesis {
-    pub refusal: u8,
+pub struct Spelt {
     pub bytes: usize,
     pub tees: usize,
     pub steps: usize,
@@ -71,36 +71,25 @@ fn falls(z: usize, w: usize) -> bool
 
 // ---- a step
 
-// m and the next matrix, or none.
-#[derive(Clone, Copy)]
-enum Reduction {
-    Step(u8, DOmegaUnitary),
-    Ended,
-}
-
-// The step at a reduced unitary triple: H·T^-m from the left, then as many divisions by root two as there are.
+// The step at a reduced unitary triple, m and the next matrix: H·T^-m from the left, then as many divisions by root two as there are. None at k = 0.
 // The method of this name (crate unitary) does something else: it finds the least exponent. So it is in the Rust: src/unitary.rs, src/ring/d_omega.rs.
-fn reduce_denomexp(t: DOmegaUnitary) -> Reduction
+fn reduce_denomexp(t: DOmegaUnitary) -> Option<(u8, DOmegaUnitary)>
     requires fact_1 { Good t }
     requires fact_2 { t.k ≤ deepest }
     ensures { answer_of result ≡ reduction (triple t) }
 {
     if t.k == 0 {
-        return Reduction::Ended;
+        return None;
     }
-    let z = t.z;
-    let w = t.w;
-    let p = z.residue();
-    let q = w.residue();
-    let m = power(p as usize, q as usize);
+    let p = t.z.residue() as usize;
+    let q = t.w.residue() as usize;
+    let m = power(p, q);
     let turned = t.mul_by_t_inv_power_from_left(m);
     let raised = turned.mul_by_h_from_left();
-    if falls(p as usize, q as usize) {
-        let next = raised.halved(1);
-        return Reduction::Step(m, next);
+    if falls(p, q) {
+        return Some((m, raised.halved(1)));
     }
-    let next = raised.lowered();
-    Reduction::Step(m, next)
+    Some((m, raised.lowered()))
 }
 
 // The letters of a step, T^m·H with S for TT, from the start of the free rest.
@@ -134,20 +123,16 @@ fn power_of_omega(x: ZOmega) -> u8
     requires { Small x }
     ensures { result ≡ which (quad x) }
 {
-    let a = x.a;
-    let b = x.b;
-    let c = x.c;
-    let d = x.d;
-    if ring::odd(d) {
-        return by_sign(d, 0, 4);
+    if ring::odd(x.d) {
+        return by_sign(x.d, 0, 4);
     }
-    if ring::odd(c) {
-        return by_sign(c, 1, 5);
+    if ring::odd(x.c) {
+        return by_sign(x.c, 1, 5);
     }
-    if ring::odd(b) {
-        return by_sign(b, 2, 6);
+    if ring::odd(x.b) {
+        return by_sign(x.b, 2, 6);
     }
-    by_sign(a, 3, 7)
+    by_sign(x.a, 3, 7)
 }
 
 // T where n is odd, X x times, W m times: what is left of n, two for each S.
@@ -169,7 +154,7 @@ fn closing_by(n: u8, x: u8, m: u8) -> Closing
     };
     Closing {
         tees: lead as usize,
-        tail: tail,
+        tail,
     }
 }
 
@@ -179,16 +164,11 @@ fn closing_of(t: DOmegaUnitary) -> Closing
     requires fact_2 { t.k ≡ 0 }
     ensures { Closes (triple t) result }
 {
-    let z = t.z;
-    let w = t.w;
-    let n = t.n;
-    if z.residue() == 0 {
-        let u = w.mul_by_omega_inv_power(n % 2);
-        let m = power_of_omega(u);
-        return closing_by(n, 1, m);
+    if t.z.residue() == 0 {
+        let u = t.w.mul_by_omega_inv_power(t.n % 2);
+        return closing_by(t.n, 1, power_of_omega(u));
     }
-    let m = power_of_omega(z);
-    closing_by(n, 0, m)
+    closing_by(t.n, 0, power_of_omega(t.z))
 }
 
 // The closing letters, from the start of the free rest.
@@ -199,10 +179,8 @@ fn write_closing(rest: &mut [u8], t: DOmegaUnitary) -> usize
     ensures { Put rest.old 0 (bytes (closing (triple t))) rest.new result }
 {
     let c = closing_of(t);
-    let tees = c.tees;
-    let tail = c.tail;
-    let a = writing::put_times(rest, 0, b'T', tees);
-    writing::put_ending(rest, a, tail)
+    let a = writing::put_times(rest, 0, b'T', c.tees);
+    writing::put_ending(rest, a, c.tail)
 }
 
 // ---- job 4
@@ -224,10 +202,7 @@ fn decompose_domega_unitary(t: DOmegaUnitary, work: &mut [u8]) -> Decomposed
     let mut u = t;
     let mut len: usize = 0;
     let mut steps: usize = 0;
-    while u.k > 0 {
-        let Reduction::Step(m, next) = reduce_denomexp(u) else {
-            return Decomposed { len: 0, steps: 0 };
-        };
+    while let Some((m, next)) = reduce_denomexp(u) {
         len += write_block(&mut work[len..], m);
         steps += 1;
         u = next;
@@ -236,52 +211,33 @@ fn decompose_domega_unitary(t: DOmegaUnitary, work: &mut [u8]) -> Decomposed
     Decomposed { len, steps }
 }
 
-fn refused(number: u8) -> Synthesis
-    ensures { result ≡ refused number 0 }
-{
-    Synthesis {
-        refusal: number,
-        bytes: 0,
-        tees: 0,
-        steps: 0,
-    }
-}
-
 // The normal word of a reduced triple, and the steps to it.
-fn answer(t: DOmegaUnitary, buf: &mut [u8]) -> Synthesis
+fn answer(t: DOmegaUnitary, buf: &mut [u8]) -> Result<Spelt, Refusal>
     requires fact_1 { Good t }
     requires fact_2 { t.k ≤ deepest }
-    ensures { AnsweredBy (triple t) buf.old result buf.new }
+    ensures { AnsweredBy (triple t) buf.old (synthesised result) buf.new }
 {
     let mut work = [0u8; 384];
     let d = decompose_domega_unitary(t, &mut work);
-    let len = d.len;
-    let r = normal_form::normalise(&work[..len], buf);
-    if r.refusal != exact::ACCEPTED {
-        return refused(r.refusal);
-    }
-    Synthesis {
-        refusal: exact::ACCEPTED,
+    let r = normal_form::normalise(&work[..d.len], buf)?;
+    Ok(Spelt {
         bytes: r.bytes,
         tees: r.tees,
         steps: d.steps,
-    }
+    })
 }
 
 // Job 4: the normal word whose matrix is the triple's, and the steps to it. An unreduced triple is reduced first.
-pub fn synthesise(k: i64, n: u8, z: ZOmega, w: ZOmega, buf: &mut [u8]) -> Synthesis
-    ensures { SynthesiseOutcome k n z w buf.old result buf.new }
+pub fn synthesise(t: Triple, buf: &mut [u8]) -> Result<Spelt, Refusal>
+    ensures { SynthesiseOutcome t.k t.n t.z t.w buf.old (synthesised result) buf.new }
 {
-    let refusal = unitary::check(k, z, w);
-    if refusal != exact::ACCEPTED {
-        return refused(refusal);
-    }
-    let t = DOmegaUnitary {
-        z: z,
-        w: w,
-        n: n,
-        k: k as u8,
+    unitary::check(t)?;
+    let given = DOmegaUnitary {
+        z: t.z,
+        w: t.w,
+        n: t.n,
+        k: t.k as u8,
     };
-    let s = t.reduce_denomexp();
-    answer(s, buf)
+    let reduced = given.reduce_denomexp();
+    answer(reduced, buf)
 }

@@ -1,5 +1,5 @@
 -- The ways out of `check`, and of job 1 behind it: a lemma for each, over plain values. Assumes nothing.
-use Rattle.std.specs.Prelude.{◌≡◌, refl, Bool, true, false, not, ℕ, ◌≤◌, T, ℤ, pos, nat_abs}
+use Rattle.std.specs.Prelude.{◌≡◌, refl, Bool, true, false, not, ℕ, ◌≤◌, T, ℤ, pos, nat_abs, Ok, Err}
 use Rattle.std.proofs.Common.{ap, subst, arith, SFits, Fits, to_z-of_z}
 use Rattle.std.proofs.lemmas.Bool.{not-true, not-false}
 use Rattle.std.specs.Int.Signed.{lt_z, non_neg}
@@ -9,9 +9,12 @@ use Rattle.exact.specs.Meaning.Triple.{entries}
 use Rattle.exact.specs.Meaning.Limits as Limits
 use Rattle.exact.specs.Meaning.Limits.{largest, deepest}
 use Rattle.exact.specs.Meaning.Outcome as Meaning
+use Rattle.exact.specs.Meaning.Handed.{number, place}
+use Rattle.exact.specs.declared.Refusal.{Refusal}
 use Rattle.exact.specs.Meaning.Outcome.{Rung, ◌also◌, Decides}
 use Rattle.exact.specs.Meaning.Refusals.{InExponents, InCoefficients, checks}
 use Rattle.exact.proofs.Outcomes.Ladder.{pass, check_passed, check_refused}
+use Rattle.exact.proofs.Outcomes.Handed.{check_given}
 use Rattle.exact.proofs.Outcomes.Checked.{Taken, checks_taken, taken_checks, checks_placeless}
 use Rattle.exact.proofs.Whole.Machine.{held}
 use Rattle.exact.proofs.Matrices.Sizes.{sized_le}
@@ -19,7 +22,7 @@ use Rattle.ring.specs.Meaning.{quad}
 use Rattle.ring.specs.Number.{Small}
 use Rattle.ring.specs.declared.ZOmega.{ZOmega}
 use Rattle.unitary.specs.declared.DOmegaUnitary.{DOmegaUnitary}
-use Rattle.unitary.specs.Meaning.{triple, given, none, Answers, refused, Reduces, ReduceOutcome}
+use Rattle.unitary.specs.Meaning.{triple, given, Answers, refused, Reduces, ReduceOutcome, as_checked}
 use Rattle.unitary.specs.Checks.{UnitaryAt, CheckOutcome, below_zero, over_sixty, in_exponents, exponent_cast, exponent_size}
 
 -- ---- the check
@@ -76,6 +79,34 @@ module _ (k : ℤ) (z w : ZOmega) (fits : SFits w64 k) where
           Rung.passed exponent_passed (Rung.passed coefficients_passed (Rung.passed (λ p h. h.0 (sums_of.yes (not-false c t))) refl))
 
 -- ---- what a job knows that has asked the check
+-- where nothing is refused
+module _ {k : ℤ} {z w : ZOmega} (checked : CheckOutcome k z w Limits.no_refusal) where
+  pub passed_taken : Taken k (quad z) (quad w)
+  passed_taken = checks_taken k (quad z) (quad w) (check_passed (checks k (quad z) (quad w)) (checks_placeless k (quad z) (quad w)) 0 checked refl)
+
+  pub passed_small : Small z × Small w
+  passed_small =
+      let h = passed_taken.coefficients_in in
+      (record { sized = sized_le (omega arith) h.z_in }, record { sized = sized_le (omega arith) h.w_in })
+
+  module _ (fits : SFits w64 k) where
+    pub passed_cast : T (non_neg (held w64 k)) × Fits w8 (nat_abs (held w64 k))
+    passed_cast = exponent_cast k (held w64 k) (to_z-of_z fits) passed_taken.exponent_in
+
+    pub passed_few : nat_abs (held w64 k) ≤ deepest
+    passed_few = rw (to_z-of_z fits) (exponent_size k passed_taken.exponent_in)
+
+-- what is handed back: its refusal, or what comes behind it
+module _ {R : Type 0} (refused : ℕ → ℕ → R) (Answer : R → Type 0) (more : Meaning.Refusals) (k : ℤ) (z w : ZOmega) where
+  pub refusal_given : (e : Refusal) → CheckOutcome k z w (number e)
+      → Meaning.Outcome refused Answer (checks k (quad z) (quad w) also more) (refused (number e) (place e))
+  refusal_given e c = check_given k (quad z) (quad w) {A = Unit {0}} (Err e) c e refl refused Answer more
+
+  pub passed_on : CheckOutcome k z w Limits.no_refusal → (r : R) → Meaning.Outcome refused Answer more r
+      → Meaning.Outcome refused Answer (checks k (quad z) (quad w) also more) r
+  passed_on c = pass refused Answer (checks k (quad z) (quad w)) more (taken_checks k (quad z) (quad w) (passed_taken c))
+
+-- ---- the same of a number
 module _ {k : ℤ} {z w : ZOmega} (fits : SFits w64 k) {r : ℕ} (checked : CheckOutcome (held w64 k) z w r) where
   of_k : CheckOutcome k z w r
   of_k = subst (λ (y : ℤ). CheckOutcome y z w r) (to_z-of_z fits) checked
@@ -103,12 +134,12 @@ module _ {k : ℤ} {z w : ZOmega} (fits : SFits w64 k) {r : ℕ} (checked : Chec
     taken_as e = pass refused Answer (checks k (quad z) (quad w)) more (taken_checks k (quad z) (quad w) (taken e))
 
 -- ---- job 1
-module _ (k : ℤ) (n : ℕ) (z w : ZOmega) (fits : SFits w64 k) (r : ℕ) (checked : CheckOutcome (held w64 k) z w r) where
-  pub reduce_refused : (r ≡ 0 → ⊥) → (m : DOmegaUnitary) → m ≡ none → ReduceOutcome k n z w (record { refusal = r; matrix = m })
-  reduce_refused f m e = rw e (refused_as fits checked refused (Reduces (entries (given k n z w))) Meaning.none f)
+module _ (k : ℤ) (n : ℕ) (z w : ZOmega) where
+  pub reduce_refused : (e : Refusal) → CheckOutcome k z w (number e) → ReduceOutcome k n z w (as_checked (Err e))
+  reduce_refused = refusal_given refused (Reduces (entries (given k n z w))) Meaning.none k z w
 
-  pub reduce_taken : r ≡ 0 → (t : DOmegaUnitary) → Answers (entries (given (held w64 k) n z w)) (triple t)
-      → ReduceOutcome k n z w (record { refusal = 0; matrix = t })
-  reduce_taken e t a =
-      taken_as fits checked refused (Reduces (entries (given k n z w))) Meaning.none e (record { refusal = 0; matrix = t })
+  pub reduce_taken : CheckOutcome k z w Limits.no_refusal → SFits w64 k → (t : DOmegaUnitary)
+      → Answers (entries (given (held w64 k) n z w)) (triple t) → ReduceOutcome k n z w (as_checked (Ok t))
+  reduce_taken c fits t a =
+      passed_on refused (Reduces (entries (given k n z w))) Meaning.none k z w c (as_checked (Ok t))
       (record { taken = refl; answer = subst (λ (y : ℤ). Answers (entries (given y n z w)) (triple t)) (to_z-of_z fits) a })

@@ -1,15 +1,15 @@
 -- What jobs 1 and 2 promise for every input (docs/SCOPE.md, Jobs); and a machine's triple as the exact one.
-use Rattle.std.specs.Prelude.{◌≡◌, List, ℕ, ◌<◌, ℤ, pos}
+use Rattle.std.specs.Prelude.{◌≡◌, List, ℕ, ◌<◌, ℤ, pos, Result}
 use Rattle.exact.specs.Meaning.Matrix.{Matrix, Same}
 use Rattle.exact.specs.Meaning.Word.{Letter, word, Spelled}
 use Rattle.exact.specs.Meaning.Triple.{Triple, entries, Reduced}
 use Rattle.exact.specs.Meaning.Limits.{no_refusal}
 use Rattle.exact.specs.Meaning.Outcome.{Outcome, none as last, ◌then◌}
 use Rattle.exact.specs.Meaning.Refusals.{handed_in, long, letter, deep, checks}
+use Rattle.exact.specs.Meaning.Handed.{handed}
+use Rattle.exact.specs.declared.Refusal.{Refusal}
 use Rattle.ring.specs.Meaning.{quad}
 use Rattle.ring.specs.declared.ZOmega.{ZOmega}
-use Rattle.unitary.specs.declared.Checked.{Checked}
-use Rattle.unitary.specs.declared.FromGates.{FromGates}
 use Rattle.unitary.specs.declared.DOmegaUnitary.{DOmegaUnitary}
 
 -- ---- a machine's triple as the exact one
@@ -35,8 +35,17 @@ pub record Answers (m : Matrix) (t : Triple) : Type 0 where
   pub n_small : t.n < 8
 
 -- ---- job 1
+-- what is handed back
+pub record Checked : Type 0 where
+  pub refusal : ℕ
+  pub matrix : DOmegaUnitary
+
 abbrev pub refused : ℕ → ℕ → Checked
 refused n p = record { refusal = n; matrix = none }
+
+-- of a result
+abbrev pub as_checked : Result DOmegaUnitary Refusal → Checked
+as_checked = handed refused (λ (t : DOmegaUnitary). record { refusal = no_refusal; matrix = t })
 
 pub record Reduces (m : Matrix) (r : Checked) : Type 0 where
   pub taken : r.refusal ≡ no_refusal
@@ -46,8 +55,18 @@ abbrev pub ReduceOutcome : ℤ → ℕ → ZOmega → ZOmega → Checked → Typ
 ReduceOutcome k n z w r = Outcome refused (Reduces (entries (given k n z w))) (checks k (quad z) (quad w)) r
 
 -- ---- job 2
+-- what is handed back
+pub record FromGates : Type 0 where
+  pub refusal : ℕ
+  pub place : ℕ
+  pub matrix : DOmegaUnitary
+
 abbrev pub stopped : ℕ → ℕ → FromGates
 stopped n p = record { refusal = n; place = p; matrix = none }
+
+-- of a result
+abbrev pub as_from_gates : Result DOmegaUnitary Refusal → FromGates
+as_from_gates = handed stopped (λ (t : DOmegaUnitary). record { refusal = no_refusal; place = 0; matrix = t })
 
 pub record Multiplies (u : List Letter) (r : FromGates) : Type 0 where
   pub taken : r.refusal ≡ no_refusal

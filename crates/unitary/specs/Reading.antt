@@ -20,8 +20,7 @@ use Rattle.exact.specs.Matrices.Least.{reduced_test}
 use Rattle.exact.proofs.Matrices.Least.{least_same, test_reduced}
 use Rattle.exact.specs.Matrices.Triples.{identity}
 use Rattle.unitary.specs.declared.DOmegaUnitary.{DOmegaUnitary}
-use Rattle.unitary.specs.declared.FromGates.{FromGates}
-use Rattle.unitary.specs.Meaning.{triple, Answers, stopped, Multiplies, MatrixOutcome}
+use Rattle.unitary.specs.Meaning.{FromGates, triple, Answers, stopped, Multiplies, MatrixOutcome}
 use Rattle.unitary.specs.Letters.{Scanned, scanned_first, scanned_all}
 use Rattle.unitary.specs.Acts.{Good, Acted}
 

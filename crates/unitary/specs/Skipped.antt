@@ -12,9 +12,7 @@ use Rattle.exact.proofs.Outcomes.Ladder.{only_refused}
 use Rattle.exact.proofs.Outcomes.Places.{one_plain, one_letter}
 use Rattle.ring.specs.Meaning.{quad}
 use Rattle.ring.specs.declared.ZOmega.{ZOmega}
-use Rattle.unitary.specs.declared.Checked.{Checked}
-use Rattle.unitary.specs.declared.FromGates.{FromGates}
-use Rattle.unitary.specs.Meaning.{given, refused, Reduces, ReduceOutcome, stopped, Multiplies, MatrixOutcome}
+use Rattle.unitary.specs.Meaning.{Checked, FromGates, given, refused, Reduces, ReduceOutcome, stopped, Multiplies, MatrixOutcome}
 
 -- ---- k over 60 and a coefficient over 2^30: neither accepted nor refused 4, but 3
 abbrev number : ℕ → ZOmega

@@ -11,10 +11,8 @@ use Rattle.exact.proofs.Outcomes.Ladder.{pass}
 use Rattle.exact.proofs.Outcomes.Checked.{Taken, taken_checks}
 use Rattle.ring.specs.Meaning.{quad}
 use Rattle.ring.specs.declared.ZOmega.{ZOmega}
-use Rattle.unitary.specs.declared.Checked.{Checked}
-use Rattle.unitary.specs.declared.FromGates.{FromGates}
+use Rattle.unitary.specs.Meaning.{Checked, FromGates, triple, given, refused, Reduces, ReduceOutcome, MatrixOutcome}
 use Rattle.unitary.specs.declared.DOmegaUnitary.{DOmegaUnitary}
-use Rattle.unitary.specs.Meaning.{triple, given, refused, Reduces, ReduceOutcome, MatrixOutcome}
 use Rattle.unitary.specs.Reading.{read_start, read_whole}
 use Rattle.unitary.specs.Unique.{reduce_unique, matrix_unique}
 

@@ -15,14 +15,16 @@ ghost use Rattle.exact.specs.Matrices.Least.{mod_eight};
 ghost use Rattle.exact.specs.Matrices.Triples.{act, identity};
 ghost use Rattle.ring.specs.Meaning.{quad};
 ghost use Rattle.ring.specs.Number.{Small};
-ghost use Rattle.unitary.specs.Meaning.{triple, none, Answers, ReduceOutcome, stopped, MatrixOutcome};
+ghost use Rattle.unitary.specs.Meaning.{triple, Answers, ReduceOutcome, as_checked, MatrixOutcome, as_from_gates};
 ghost use Rattle.exact.specs.Meaning.Outcome.{Decides};
+ghost use Rattle.exact.specs.Meaning.Handed.{checked};
 ghost use Rattle.unitary.specs.Checks.{UnitaryAt, CheckOutcome, both_test};
 ghost use Rattle.unitary.specs.Letters.{Scanned};
 ghost use Rattle.unitary.specs.Acts.{Good, Acted, turned_back};
 ghost use Rattle.unitary.specs.Reducing.{Twos, OnceMore};
 
-use ring::ZOmega;
+use exact::Refusal;
+use ring::{Triple, ZOmega};
 
 #[derive(Clone, Copy)]
 pub struct DOmegaUnitary {
@@ -30,19 +32,6 @@ pub struct DOmegaUnitary {
     pub w: ZOmega,
     pub n: u8,
     pub k: u8,
-}
-
-#[derive(Clone, Copy)]
-pub struct Checked {
-    pub refusal: u8,
-    pub matrix: DOmegaUnitary,
-}
-
-#[derive(Clone, Copy)]
-pub struct FromGates {
-    pub refusal: u8,
-    pub place: usize,
-    pub matrix: DOmegaUnitary,
 }
 
 // ---- checks
@@ -101,52 +90,39 @@ fn is_unitary(k: u8, z: ZOmega, w: ZOmega) -> bool
     z_crosses == wanted
 }
 
-// Refusals 3, 4 and 5 in that order, or 0.
-pub fn check(k: i64, z: ZOmega, w: ZOmega) -> u8
+// Refusals 3, 4 and 5 in that order.
+pub fn check(t: Triple) -> Result<(), Refusal>
+    ensures { CheckOutcome t.k t.z t.w (checked result) }
+{
+    if t.k < 0 {
+        return Err(Refusal::Exponent);
+    }
+    if t.k > exact::DEEPEST {
+        return Err(Refusal::Exponent);
+    }
+    if !within_limits(t.z) {
+        return Err(Refusal::Coefficient);
+    }
+    if !within_limits(t.w) {
+        return Err(Refusal::Coefficient);
+    }
+    if !is_unitary(t.k as u8, t.z, t.w) {
+        return Err(Refusal::Unitary);
+    }
+    Ok(())
+}
+
+// The refusal by its number, or 0.
+pub fn check_number(k: i64, z: ZOmega, w: ZOmega) -> u8
     ensures { CheckOutcome k z w result }
 {
-    if k < 0 {
-        return exact::EXPONENT;
+    match check(Triple { k, n: 0, z, w }) {
+        Ok(()) => exact::ACCEPTED,
+        Err(refusal) => refusal.number(),
     }
-    if k > exact::DEEPEST {
-        return exact::EXPONENT;
-    }
-    if !within_limits(z) {
-        return exact::COEFFICIENT;
-    }
-    if !within_limits(w) {
-        return exact::COEFFICIENT;
-    }
-    if !is_unitary(k as u8, z, w) {
-        return exact::UNITARY;
-    }
-    exact::ACCEPTED
 }
 
 // ---- triples
-
-fn nothing() -> DOmegaUnitary
-    ensures { result ≡ none }
-{
-    let z = ZOmega {
-        a: 0,
-        b: 0,
-        c: 0,
-        d: 0,
-    };
-    let w = ZOmega {
-        a: 0,
-        b: 0,
-        c: 0,
-        d: 0,
-    };
-    DOmegaUnitary {
-        z: z,
-        w: w,
-        n: 0,
-        k: 0,
-    }
-}
 
 impl DOmegaUnitary {
     pub fn identity() -> DOmegaUnitary
@@ -414,28 +390,17 @@ impl DOmegaUnitary {
 }
 
 // Job 1: reduce and check a triple.
-pub fn reduce(k: i64, n: u8, z: ZOmega, w: ZOmega) -> Checked
-    ensures { ReduceOutcome k n z w result }
+pub fn reduce(t: Triple) -> Result<DOmegaUnitary, Refusal>
+    ensures { ReduceOutcome t.k t.n t.z t.w (as_checked result) }
 {
-    let refusal = check(k, z, w);
-    if refusal != exact::ACCEPTED {
-        let matrix = nothing();
-        return Checked {
-            refusal: refusal,
-            matrix: matrix,
-        };
-    }
-    let t = DOmegaUnitary {
-        z: z,
-        w: w,
-        n: n,
-        k: k as u8,
+    check(t)?;
+    let as_given = DOmegaUnitary {
+        z: t.z,
+        w: t.w,
+        n: t.n,
+        k: t.k as u8,
     };
-    let matrix = t.reduce_denomexp();
-    Checked {
-        refusal: 0,
-        matrix: matrix,
-    }
+    Ok(as_given.reduce_denomexp())
 }
 
 // ---- words
@@ -503,27 +468,16 @@ impl DOmegaUnitary {
     }
 }
 
-fn stopped(number: u8, place: usize) -> FromGates
-    ensures { result ≡ stopped number place }
-{
-    let matrix = nothing();
-    FromGates {
-        refusal: number,
-        place: place,
-        matrix: matrix,
-    }
-}
-
 // Job 2: word to matrix. The word is read from its right end, and each ending is kept reduced.
-pub fn from_gates(word: &[u8]) -> FromGates
-    ensures { MatrixOutcome word.now result }
+pub fn from_gates(word: &[u8]) -> Result<DOmegaUnitary, Refusal>
+    ensures { MatrixOutcome word.now (as_from_gates result) }
 {
     if word.len() > exact::LONGEST {
-        return stopped(exact::LONG, 0);
+        return Err(Refusal::Long);
     }
     let bad = first_outside(word);
     if bad < word.len() {
-        return stopped(exact::LETTER, bad);
+        return Err(Refusal::Letter(bad));
     }
     let mut t = DOmegaUnitary::identity();
     let mut i = word.len();
@@ -532,13 +486,9 @@ pub fn from_gates(word: &[u8]) -> FromGates
         let g = word[at];
         t = t.mul_by_letter_from_left(g);
         if t.k > 60 {
-            return stopped(exact::DEEP, at);
+            return Err(Refusal::Deep(at));
         }
         i = at;
     }
-    FromGates {
-        refusal: 0,
-        place: 0,
-        matrix: t,
-    }
+    Ok(t)
 }

@@ -53,13 +53,6 @@ module _ (q : Surd) (f : Fit q) where
   B_31 : nat_abs q.B ≤ 2 ^ 31
   B_31 = le_trans f.B_small (pow_mono f.s_few)
 
--- what `near` asks of its arguments
-abbrev Asks : Surd → Type 0
-Asks q = (q.s ≤ 52) × (nat_abs q.A ≤ 2 ^ q.s) × (nat_abs q.B ≤ 2 ^ q.s)
-
-asked : (q : Surd) → Fit q → Asks q
-asked q f = (le_trans f.s_few (lit≤ tt), f.A_small, f.B_small)
-
 -- ---- the arguments as the code hands them over
 module _ (k : ℕ) (u v : ℤ) (f : Fit (over k u v)) (e : k % 2 ≡ 0) where
   fit_even : Fit (at_even k u v)
@@ -76,12 +69,6 @@ module _ (k : ℕ) (u v : ℤ) (f : Fit (over k u v)) (e : k % 2 ≡ 0) where
       ap₂ (λ a b. record { A = a; B = b; s = (k + 2) / 2 }) (result_by w64 (u ∷ []) (2 ^ 31 ∷ []) (u_31, tt) (arg 0 ∔ arg 0) tt)
       (held_is v (B_31 (at_even k u v) fit_even))
 
-  pub doubled_fits : SFits w64 (held u +ℤ held u)
-  doubled_fits = need_by w64 (u ∷ []) (2 ^ 31 ∷ []) (u_31, tt) (arg 0 ∔ arg 0) tt
-
-  pub asked_even : Asks even_args
-  asked_even = subst Asks (sym even_args_are) (asked (at_even k u v) fit_even)
-
   pub shows_even : (r : Float) → Shows even_args r → Shows (over k u v) r
   shows_even r = subst (λ q. Shows q r) (even_args_are ∙ sym (even_is k u v e))
 
@@ -96,9 +83,6 @@ module _ (k : ℕ) (u v : ℤ) (f : Fit (over k u v)) (e : k % 2 ≡ 0 → ⊥) 
   odd_args_are =
       ap₂ (λ a b. record { A = a; B = b; s = (k + 2) / 2 }) (held_is v (A_31 (at_odd k u v) fit_odd))
       (held_is u (B_31 (at_odd k u v) fit_odd))
-
-  pub asked_odd : Asks odd_args
-  asked_odd = subst Asks (sym odd_args_are) (asked (at_odd k u v) fit_odd)
 
   pub shows_odd : (r : Float) → Shows odd_args r → Shows (over k u v) r
   shows_odd r = subst (λ q. Shows q r) (odd_args_are ∙ sym (odd_is k u v e))

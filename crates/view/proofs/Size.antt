@@ -7,6 +7,10 @@ use Rattle.exact.specs.Meaning.Triple.{Triple, squares, Unitary}
 use Rattle.exact.proofs.Algebra.Ring.{ints_laws}
 use Rattle.exact.proofs.Algebra.Solver.{con, ◌⊕◌, ◌⊗◌, ◌⊝◌, exprs, solve, ring₁, ring₂}
 use Rattle.exact.proofs.Algebra.Omega.{omegas_laws, X₀, X₁, parts}
+use Rattle.exact.proofs.Matrices.Sizes.{sized_le}
+use Rattle.ring.specs.Meaning.{quad}
+use Rattle.ring.specs.Number.{Small}
+use Rattle.ring.specs.declared.ZOmega.{ZOmega}
 use Rattle.view.specs.Meaning.Surd.{even, over, real, imaginary}
 use Rattle.view.specs.Size.{size, Fit}
 
@@ -76,6 +80,10 @@ coefficients x h = record {
   c_small = root_le (nat_abs x.c) (2 ^ 30) (omega (arith, size_is x));
   d_small = root_le (nat_abs x.d) (2 ^ 30) (omega (arith, size_is x));
 }
+
+-- and of a machine's number
+pub small_of : (x : ZOmega) → size (quad x) ≤ 2 ^ 60 → Small x
+small_of x h = record { sized = sized_le (omega arith) (coefficients (quad x) h) }
 
 -- ---- A and B
 -- (c - a)² + (c + a)² is twice a² + c²

@@ -7,8 +7,7 @@ use Rattle.exact.proofs.Outcomes.Checked.{Taken, taken_checks}
 use Rattle.ring.specs.Meaning.{quad}
 use Rattle.ring.specs.declared.ZOmega.{ZOmega}
 use Rattle.unitary.specs.Meaning.{given}
-use Rattle.view.specs.declared.Answer.{Answer}
-use Rattle.view.specs.Meaning.Outcome.{refused, Views, ViewOutcome}
+use Rattle.view.specs.Meaning.Outcome.{Answer, refused, Views, ViewOutcome}
 
 abbrev whole : ℕ → ZOmega
 whole n = record { a = pos 0; b = pos 0; c = pos 0; d = pos n }

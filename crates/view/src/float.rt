@@ -15,7 +15,7 @@ fn cast(a: i64) -> f64
 }
 
 // 2 to the -s, exactly.
-fn power(s: u32) -> f64
+fn power(s: u8) -> f64
     requires { s ≤ 52 }
     ensures { result ≡ half^ s }
 {
@@ -23,7 +23,7 @@ fn power(s: u32) -> f64
 }
 
 // One rounded product by the root-two constant, one rounded sum, one exact scaling.
-fn near(a: i64, b: i64, s: u32) -> f64
+fn near(a: i64, b: i64, s: u8) -> f64
     requires { (s ≤ 52) × (nat_abs a ≤ 2 ^ s) × (nat_abs b ≤ 2 ^ s) }
     ensures { Shows (record { A = a; B = b; s = s }) result }
 {
@@ -32,7 +32,7 @@ fn near(a: i64, b: i64, s: u32) -> f64
 }
 
 // u + v over root two, over root two to the k.
-pub(crate) fn over(k: u32, u: i64, v: i64) -> f64
+pub(crate) fn over(k: u8, u: i64, v: i64) -> f64
     requires { Fit (surd k u v) }
     ensures { Shows (surd k u v) result }
 {

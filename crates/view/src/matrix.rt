@@ -1,14 +1,14 @@
 // The entries of a unitary triple's matrix, rows [z, -w*·omega^n] and [w, z*·omega^n] over root two to the k.
-ghost use Rattle.std.specs.Prelude.{◌≡◌, ◌≤◌};
+ghost use Rattle.std.specs.Prelude.{◌≤◌};
 ghost use Rattle.exact.specs.Meaning.Triple.{Unitary};
-ghost use Rattle.ring.specs.Meaning.{quad};
-ghost use Rattle.view.specs.Meaning.Outcome.{Viewed, nothing};
+ghost use Rattle.unitary.specs.Meaning.{triple};
+ghost use Rattle.view.specs.Meaning.Outcome.{Viewed};
 
 use crate::number::{mul_by_omega_power, parts};
-use ring::ZOmega;
+use unitary::DOmegaUnitary;
 
 // Row by row: `re` and `im` with i and j are the real and the imaginary part of the entry in row i and column j.
-#[derive(Clone, Copy)]
+#[derive(Clone, Copy, Default)]
 pub struct View {
     pub re00: f64,
     pub im00: f64,
@@ -20,34 +20,16 @@ pub struct View {
     pub im11: f64,
 }
 
-pub(crate) fn nils() -> View
-    ensures { result ≡ nothing }
+pub(crate) fn entries(t: DOmegaUnitary) -> View
+    requires { (t.k ≤ 60) × Unitary (triple t) }
+    ensures { Viewed (triple t) result }
 {
-    View {
-        re00: 0.0,
-        im00: 0.0,
-        re01: 0.0,
-        im01: 0.0,
-        re10: 0.0,
-        im10: 0.0,
-        re11: 0.0,
-        im11: 0.0,
-    }
-}
-
-pub(crate) fn entries(k: u32, n: u8, z: ZOmega, w: ZOmega) -> View
-    requires { (k ≤ 60) × Unitary (record { k = k; n = n; z = quad z; w = quad w }) }
-    ensures { Viewed (record { k = k; n = n; z = quad z; w = quad w }) result }
-{
-    let zc = z.conj();
-    let zu = mul_by_omega_power(zc, n);
-    let wc = w.conj();
-    let wu = mul_by_omega_power(wc, n);
-    let wm = wu.neg();
-    let p = parts(z, k);
-    let q = parts(wm, k);
-    let r = parts(w, k);
-    let s = parts(zu, k);
+    let zu = mul_by_omega_power(t.z.conj(), t.n);
+    let wu = mul_by_omega_power(t.w.conj(), t.n);
+    let p = parts(t.z, t.k);
+    let q = parts(wu.neg(), t.k);
+    let r = parts(t.w, t.k);
+    let s = parts(zu, t.k);
     View {
         re00: p.re,
         im00: p.im,

@@ -18,27 +18,20 @@ pub(crate) fn mul_by_omega_power(x: ZOmega, n: u8) -> ZOmega
     requires { size (quad x) ≤ 2 ^ 60 }
     ensures { quad result ≡ mul_q ints (quad x) (omega^ n) }
 {
-    let m = n % 8;
     let mut y = x;
-    let mut i: u8 = 0;
-    while i < m {
+    for _ in 0..n % 8 {
         y = y.mul_by_omega();
-        i += 1;
     }
     y
 }
 
 // The parts over root two to the k.
-pub(crate) fn parts(x: ZOmega, k: u32) -> Complex
+pub(crate) fn parts(x: ZOmega, k: u8) -> Complex
     requires { (k ≤ 60) × (size (quad x) ≤ 2 ^ k) }
     ensures { Entry k (quad x) result.re result.im }
 {
-    let a = x.a;
-    let b = x.b;
-    let c = x.c;
-    let d = x.d;
     Complex {
-        re: over(k, d, c - a),
-        im: over(k, b, c + a),
+        re: over(k, x.d, x.c - x.a),
+        im: over(k, x.b, x.c + x.a),
     }
 }

@@ -6,14 +6,11 @@ use Rattle.exact.specs.Meaning.Normal.{Normal}
 use Rattle.exact.specs.Meaning.Endings.{AllShallow}
 use Rattle.exact.specs.Meaning.Limits.{longest, enough, no_refusal}
 use Rattle.exact.specs.Meaning.Lent.{Lent, lent, over}
-use Rattle.unitary.specs.declared.FromGates.{FromGates}
-use Rattle.unitary.specs.Meaning.{MatrixOutcome}
-use Rattle.normal_form.specs.declared.Written.{Written}
+use Rattle.unitary.specs.Meaning.{FromGates, MatrixOutcome}
 use Rattle.normal_form.specs.Meaning as Job3
-use Rattle.normal_form.specs.Meaning.{NormaliseOutcome}
-use Rattle.synthesis_of_clifford_t.specs.declared.Synthesis.{Synthesis}
+use Rattle.normal_form.specs.Meaning.{Written, NormaliseOutcome}
 use Rattle.synthesis_of_clifford_t.specs.Meaning as Job4
-use Rattle.synthesis_of_clifford_t.specs.Meaning.{StepsOf, SynthesiseOutcome}
+use Rattle.synthesis_of_clifford_t.specs.Meaning.{Synthesis, StepsOf, SynthesiseOutcome}
 
 -- a word over all six letters, not too long, none of whose endings is too deep
 pub record Within (u : List Letter) : Type 0 where

@@ -2,17 +2,17 @@
 use Rattle.decimal.specs.ReadLaws.{negative_none, negative_zero, less_fits, negative_fits, negative_found}
 use Rattle.decimal.proofs.negative_at.Goals as goal
 
-pub returns-in_default : goal.returns-in_default
-returns-in_default c = search negative_none
+pub returns-in_err-value : goal.returns-in_err-value
+returns-in_err-value c = rw c.from_residual.ensures (search (negative_none, c.in_err-value.was))
 
 pub returns-then-value-eq0 : goal.returns-then-value-eq0
-returns-then-value-eq0 c = search negative_zero
+returns-then-value-eq0 c = search (negative_zero, c.in_ok-value.was)
 
 pub overflow_cast-less : goal.overflow_cast-less
-overflow_cast-less c = search less_fits
+overflow_cast-less c = search (less_fits, c.in_ok-value.was)
 
-pub overflow_sub-value : goal.overflow_sub-value
-overflow_sub-value c = search negative_fits
+pub overflow_sub-result : goal.overflow_sub-result
+overflow_sub-result c = search (negative_fits, c.in_ok-value.was)
 
 pub returns : goal.returns
-returns c = search negative_found
+returns c = search (negative_found, c.in_ok-value.was)

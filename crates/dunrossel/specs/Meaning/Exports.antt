@@ -3,23 +3,15 @@ use Rattle.std.specs.Prelude.{List, ℕ, Float, ℤ, pos, get_or}
 use Rattle.exact.specs.Meaning.Outcome.{HandsOn}
 use Rattle.exact.specs.Meaning.Word.{Letter}
 use Rattle.exact.specs.Meaning.Lent.{Lent}
-use Rattle.unitary.specs.declared.Checked.{Checked}
-use Rattle.unitary.specs.declared.FromGates.{FromGates}
-use Rattle.unitary.specs.Meaning.{ReduceOutcome, MatrixOutcome}
-use Rattle.normal_form.specs.declared.Written.{Written}
-use Rattle.normal_form.specs.Meaning.{WordOutcome}
+use Rattle.unitary.specs.Meaning.{Checked, FromGates, ReduceOutcome, MatrixOutcome}
+use Rattle.normal_form.specs.Meaning.{Written, WordOutcome}
 use Rattle.clifford.specs.Meaning.{reduced, Product, Inverse, Split}
 use Rattle.clifford.specs.declared.Clifford.{Clifford}
-use Rattle.synthesis_of_clifford_t.specs.declared.Synthesis.{Synthesis}
-use Rattle.synthesis_of_clifford_t.specs.Meaning.{SynthesiseOutcome}
+use Rattle.synthesis_of_clifford_t.specs.Meaning.{Synthesis, SynthesiseOutcome}
 use Rattle.qasm.specs.declared.Written.{Written as Converted}
-use Rattle.slot.specs.declared.Answer.{Answer as Measured}
-use Rattle.slot.specs.Meaning.{slot_of, Left, LengthOutcome, AddOutcome}
-use Rattle.view.specs.declared.Answer.{Answer}
-use Rattle.view.specs.Meaning.Outcome.{ViewOutcome}
-use Rattle.rotation.specs.declared.Answer.{Answer as Rotated}
-use Rattle.rotation.specs.declared.Count.{Count}
-use Rattle.rotation.specs.Meaning.{RotationOutcome, CountOutcome}
+use Rattle.slot.specs.Meaning.{slot_of, Answer as Measured, Left, LengthOutcome, AddOutcome}
+use Rattle.view.specs.Meaning.Outcome.{Answer, ViewOutcome}
+use Rattle.rotation.specs.Meaning.{Answer as Rotated, Count, RotationOutcome, CountOutcome}
 use Rattle.handed.specs.Meaning.{z_of, w_of, ten, eight_of, nineteen_of, counts, counts_in, four_of, five_of}
 
 -- ---- triples: zw is z.a z.b z.c z.d w.a w.b w.c w.d; the ten are k, n, then zw

@@ -1,15 +1,15 @@
 -- `normal_form::read_and_write` meets its contract. Assumes nothing.
-use Rattle.std.proofs.Common.{◌∙◌, ap₂}
-use Rattle.normal_form.specs.Meaning.{refused}
-use Rattle.normal_form.specs.Answers.{refused_outside, readable, count_most, answered_by}
+use Rattle.std.proofs.lemmas.Result.{err_from_is_err_and}
+use Rattle.normal_form.specs.Answers.{refused_outside, count_most, answered_by}
 use Rattle.normal_form.proofs.read_and_write.Goals as goal
 
-pub write-requires : goal.write-requires
-write-requires c = search (readable, count_most)
+pub returns-in_err-r : goal.returns-in_err-r
+returns-in_err-r c =
+    let p = err_from_is_err_and c.from_residual.result c.from_residual.ensures.1 in
+    rw (p.1, p.2) (search (refused_outside, c.in_err-r.was))
 
-pub returns-in-Err : goal.returns-in-Err
-returns-in-Err c =
-    refused_outside _ _ _ c.requires.places.0 c.read_word.ensures _ _ _ _ c.in-Err.is (c.refused.ensures ∙ ap₂ refused c.number.ensures c.place.ensures)
+pub write-requires-clause-count_few : goal.write-requires-clause-count_few
+write-requires-clause-count_few c = search (count_most, c.in_ok-r.was)
 
-pub returns-in-Ok : goal.returns-in-Ok
-returns-in-Ok c = search answered_by
+pub returns : goal.returns
+returns c = search (answered_by, c.in_ok-r.was)

@@ -4,11 +4,11 @@ use Rattle.normal_form.specs.Answers.{size_fits, no_room_for, syllables_room, en
 use Rattle.reading.specs.Held.{count_within}
 use Rattle.normal_form.proofs.write.Goals as goal
 
-pub overflow_add-n : goal.overflow_add-n
-overflow_add-n c = search size_fits
+pub overflow_add-bytes : goal.overflow_add-bytes
+overflow_add-bytes c = search size_fits
 
-pub returns-then-n-buf : goal.returns-then-n-buf
-returns-then-n-buf c = search no_room_for
+pub returns-then-bytes-buf : goal.returns-then-bytes-buf
+returns-then-bytes-buf c = search no_room_for
 
 pub slice_bounds-put_syllables-end : goal.slice_bounds-put_syllables-end
 slice_bounds-put_syllables-end c = sym (length-take-le c.args.r.count c.args.items.now (count_within c.requires.readable.holds))

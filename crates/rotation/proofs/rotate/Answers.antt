@@ -1,17 +1,12 @@
 -- `rotate` meets its contract: what the check refuses is refused; the rest is worked out and lowered.
-use borrow.Author.Rules.{rules}
-use Rattle.unitary.specs.Checked.{taken_cast}
-use Rattle.rotation.specs.Ways.{rotate_refused, taken_few, taken_unitary, rotate_taken}
+use Rattle.std.proofs.lemmas.Result.{err_from_is_err_and}
+use Rattle.rotation.specs.Ways.{rotate_refused, rotate_taken}
 use Rattle.rotation.proofs.rotate.Goals as goal
 
-pub returns-then-refusal-ne-ACCEPTED : goal.returns-then-refusal-ne-ACCEPTED
-returns-then-refusal-ne-ACCEPTED c = search rotate_refused
-
-pub overflow_cast-k : goal.overflow_cast-k
-overflow_cast-k c = taken_cast c.ranges.k c.check-refusal.ensures (search rules)
-
-pub worked_out-r-requires : goal.worked_out-r-requires
-worked_out-r-requires c = record { fact_1 = search taken_few; fact_2 = search taken_unitary }
+pub returns-in_err-r : goal.returns-in_err-r
+returns-in_err-r c =
+    let p = err_from_is_err_and c.from_residual.result c.from_residual.ensures.1 in
+    rw (p.1, p.2) (search (rotate_refused, c.in_err-r.ensures.check))
 
 pub returns : goal.returns
-returns c = search rotate_taken
+returns c = search (rotate_taken, c.in_ok-r.ensures.check, c.in_ok-r.ensures.worked)

@@ -1,14 +1,12 @@
 -- `worked_out` meets its contract: the columns, turned by n eighths.
-use borrow.Author.Rules.{rules}
-use Rattle.rotation.specs.Columns.{unitary_held}
-use Rattle.rotation.specs.Turned.{columns_high, columns_low, worked}
+use Rattle.rotation.specs.Ways.{taken_held, taken_high, taken_worked}
 use Rattle.rotation.proofs.worked_out.Goals as goal
 
-pub columns-r-requires : goal.columns-r-requires
-columns-r-requires c = record { fact_1 = search rules; fact_2 = search unitary_held }
+pub columns-r-requires-clause-fact_2 : goal.columns-r-requires-clause-fact_2
+columns-r-requires-clause-fact_2 c = search (taken_held, c.in_ok-check.ensures)
 
-pub turned-requires : goal.turned-requires
-turned-requires c = record { fact_1 = search columns_high; fact_2 = search columns_low }
+pub turned-requires-clause-fact_1 : goal.turned-requires-clause-fact_1
+turned-requires-clause-fact_1 c = search (taken_high, c.in_ok-check.ensures)
 
-pub returns : goal.returns
-returns c = search worked
+pub returns-clause-worked : goal.returns-clause-worked
+returns-clause-worked c = search (taken_worked, c.in_ok-check.ensures)

@@ -10,8 +10,8 @@ residue-requires c = search z_small
 pub mul_by_omega_inv_power-u-requires : goal.mul_by_omega_inv_power-u-requires
 mul_by_omega_inv_power-u-requires c = search (rules, w_small)
 
-pub power_of_omega-m-requires : goal.power_of_omega-m-requires
-power_of_omega-m-requires c = search unit_small
+pub power_of_omega-requires : goal.power_of_omega-requires
+power_of_omega-requires c = search unit_small
 
 pub closing_by-requires : goal.closing_by-requires
 closing_by-requires c = search (rules, swapped_few)
@@ -19,8 +19,8 @@ closing_by-requires c = search (rules, swapped_few)
 pub returns-then-residue-eq0 : goal.returns-then-residue-eq0
 returns-then-residue-eq0 c = search swapped_closes
 
-pub power_of_omega-m-requires-2 : goal.power_of_omega-m-requires-2
-power_of_omega-m-requires-2 c = search z_small
+pub power_of_omega-requires-2 : goal.power_of_omega-requires-2
+power_of_omega-requires-2 c = search z_small
 
 pub closing_by-requires-2 : goal.closing_by-requires-2
 closing_by-requires-2 c = search (rules, diagonal_few)

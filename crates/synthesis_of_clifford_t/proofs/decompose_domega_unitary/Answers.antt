@@ -1,28 +1,22 @@
 -- `synthesis_of_clifford_t::decompose_domega_unitary` meets its contract: each turn takes a step and writes its block into the free
 -- rest; the measure is how many steps there may be.
 use Rattle.synthesis_of_clifford_t.proofs.Parts.{writing_start, still_good, still_few, len_inside, length_kept, block_fits}
-use Rattle.synthesis_of_clifford_t.proofs.Parts.{count_fits, not_ended, step_few, step_nearer, step_room, step_writing}
+use Rattle.synthesis_of_clifford_t.proofs.Parts.{count_fits, step_few, step_nearer, step_room, step_writing, ended}
 use Rattle.synthesis_of_clifford_t.proofs.Parts.{end_room, end_fits, end_put, end_steps}
 use borrow.Author.Rules.{rules}
 use Rattle.synthesis_of_clifford_t.proofs.decompose_domega_unitary.Goals as goal
 
-pub loop-u-init : goal.loop-u-init
-loop-u-init c = search writing_start
+pub loop-m-init : goal.loop-m-init
+loop-m-init c = search writing_start
 
 pub reduce_denomexp-requires : goal.reduce_denomexp-requires
 reduce_denomexp-requires c = search (still_good, still_few)
-
-pub shape_of-work-in_default : goal.shape_of-work-in_default
-shape_of-work-in_default c = absurd (search not_ended)
-
-pub returns-in_default : goal.returns-in_default
-returns-in_default c = absurd (search not_ended)
 
 pub slice_bounds-write_block-count : goal.slice_bounds-write_block-count
 slice_bounds-write_block-count c = search (rules, len_inside)
 
 pub write_block-len-requires : goal.write_block-len-requires
-write_block-len-requires c = search (step_few, step_room)
+write_block-len-requires c = search (step_few, step_room, c.in-Some.ensures)
 
 pub overflow_add-len : goal.overflow_add-len
 overflow_add-len c = search block_fits
@@ -30,23 +24,23 @@ overflow_add-len c = search block_fits
 pub overflow_add-steps : goal.overflow_add-steps
 overflow_add-steps c = search count_fits
 
-pub loop-u-smaller : goal.loop-u-smaller
-loop-u-smaller c = search step_nearer
+pub loop-m-smaller : goal.loop-m-smaller
+loop-m-smaller c = search (step_nearer, c.in-Some.ensures)
 
-pub loop-u-preserved : goal.loop-u-preserved
-loop-u-preserved c = search step_writing
+pub loop-m-preserved : goal.loop-m-preserved
+loop-m-preserved c = search (step_writing, c.in-Some.ensures)
 
 pub slice_bounds-write_closing-count : goal.slice_bounds-write_closing-count
 slice_bounds-write_closing-count c = search len_inside
 
 pub write_closing-len-requires : goal.write_closing-len-requires
-write_closing-len-requires c = search (rules, still_good, end_room)
+write_closing-len-requires c = search (rules, still_good, end_room, ended, c.in_default.ensures)
 
 pub overflow_add-len-2 : goal.overflow_add-len-2
-overflow_add-len-2 c = search end_fits
+overflow_add-len-2 c = search (end_fits, ended, c.in_default.ensures)
 
 pub shape_of-work : goal.shape_of-work
 shape_of-work c = search length_kept
 
 pub returns : goal.returns
-returns c = (search end_put, search end_steps)
+returns c = (search (end_put, ended, c.in_default.ensures), search (end_steps, ended, c.in_default.ensures))

@@ -24,8 +24,8 @@ mul_by_h_from_left-raised-requires c = search (turned_z, turned_w, turned_n, tur
 pub falls-requires : goal.falls-requires
 falls-requires c = search residue_few
 
-pub halved-next-requires : goal.halved-next-requires
-halved-next-requires c =
+pub halved-requires : goal.halved-requires
+halved-requires c =
     (search raised_z, (search raised_w, ((search rules, search raised_over_1), (search raised_even_z, search raised_even_w))))
 
 -- `search` enters 128 records of what is at hand; the first half of the path lies beyond them, and is named from `power` on
@@ -33,8 +33,8 @@ pub returns-then-falls : goal.returns-then-falls
 returns-then-falls c =
     search step_falls
 
-pub lowered-next-requires : goal.lowered-next-requires
-lowered-next-requires c =
+pub lowered-requires : goal.lowered-requires
+lowered-requires c =
     record { fact_1 = search raised_z; fact_2 = search raised_w; fact_3 = search raised_over_0; fact_4 = search raised_both }
 
 pub returns : goal.returns

@@ -4,8 +4,6 @@ use native.Mathlib.Omega.{arith}
 use Rattle.unitary.specs.Reading.{read_start, step_more, refused_long, refused_letter, refused_deep, read_whole}
 use Rattle.unitary.proofs.from_gates.Goals as goal
 
-pub stopped-requires : goal.stopped-requires
-stopped-requires c = tt
 
 pub returns-then-word-gt-LONGEST : goal.returns-then-word-gt-LONGEST
 returns-then-word-gt-LONGEST c = search refused_long
@@ -13,8 +11,6 @@ returns-then-word-gt-LONGEST c = search refused_long
 pub first_outside-bad-requires : goal.first_outside-bad-requires
 first_outside-bad-requires c = tt
 
-pub stopped-requires-then-bad-word : goal.stopped-requires-then-bad-word
-stopped-requires-then-bad-word c = tt
 
 pub returns-then-bad-word : goal.returns-then-bad-word
 returns-then-bad-word c = search refused_letter
@@ -34,8 +30,6 @@ bounds-word-at c = omega arith
 pub mul_by_letter_from_left-t-requires : goal.mul_by_letter_from_left-t-requires
 mul_by_letter_from_left-t-requires c = let r = c.loop-i.invariant.1 in record { fact_1 = r.good; fact_2 = r.few }
 
-pub stopped-requires-then-t-gt60 : goal.stopped-requires-then-t-gt60
-stopped-requires-then-t-gt60 c = tt
 
 pub returns-then-t-gt60 : goal.returns-then-t-gt60
 returns-then-t-gt60 c = search refused_deep

@@ -1,6 +1,6 @@
 -- Job 7's outcome for every input: refusals 3, 4 and 5 in that order (docs/SCOPE.md, Refusals), with eight zeros; or the view of the
 -- triple's matrix: the real and the imaginary part of each entry, row by row.
-use Rattle.std.specs.Prelude.{◌≡◌, ℕ, ℤ, Float}
+use Rattle.std.specs.Prelude.{◌≡◌, ℕ, ℤ, Float, Result}
 use Rattle.std.specs.Float.{binary64}
 use Rattle.std.specs.Float.Ieee.{of_bits}
 use Rattle.exact.specs.Meaning.Number.{Ω}
@@ -8,13 +8,14 @@ use Rattle.exact.specs.Meaning.Triple.{Triple, entries}
 use Rattle.exact.specs.Meaning.Limits.{no_refusal}
 use Rattle.exact.specs.Meaning.Outcome.{Outcome}
 use Rattle.exact.specs.Meaning.Refusals.{checks}
+use Rattle.exact.specs.Meaning.Handed.{handed}
+use Rattle.exact.specs.declared.Refusal.{Refusal}
 use Rattle.ring.specs.Meaning.{quad}
 use Rattle.ring.specs.declared.ZOmega.{ZOmega}
 use Rattle.unitary.specs.Meaning.{given}
 use Rattle.view.specs.Meaning.Surd.{real, imaginary}
 use Rattle.view.specs.Meaning.Near.{Shows}
 use Rattle.view.specs.declared.matrix.View.{View}
-use Rattle.view.specs.declared.Answer.{Answer}
 
 -- ---- an accepted triple
 -- re and im show the two parts of x over root two to the k
@@ -37,8 +38,17 @@ nil = of_bits binary64 0
 abbrev pub nothing : View
 nothing = record { re00 = nil; im00 = nil; re01 = nil; im01 = nil; re10 = nil; im10 = nil; re11 = nil; im11 = nil }
 
+-- what is handed back
+pub record Answer : Type 0 where
+  pub refusal : ℕ
+  pub view : View
+
 abbrev pub refused : ℕ → ℕ → Answer
 refused n p = record { refusal = n; view = nothing }
+
+-- of a result
+abbrev pub as_answer : Result View Refusal → Answer
+as_answer = handed refused (λ (v : View). record { refusal = no_refusal; view = v })
 
 pub record Views (t : Triple) (r : Answer) : Type 0 where
   pub taken : r.refusal ≡ no_refusal

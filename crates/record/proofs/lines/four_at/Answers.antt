@@ -2,18 +2,17 @@
 use Rattle.record.specs.LineLaws.{no_a, no_b, no_c, no_d, four_found}
 use Rattle.record.proofs.lines.four_at.Goals as goal
 
-pub returns-in_default : goal.returns-in_default
-returns-in_default c = search no_a
+pub returns-in_err-a : goal.returns-in_err-a
+returns-in_err-a c = rw c.from_residual.ensures (search (no_a, c.in_err-a.was))
 
-pub returns-in_default-whole_at : goal.returns-in_default-whole_at
-returns-in_default-whole_at c = search no_b
+pub returns-in_err-b : goal.returns-in_err-b
+returns-in_err-b c = rw c.from_residual-in_err-b.ensures (search (no_b, c.in_ok-a.was, c.in_err-b.was))
 
-pub returns-in_default-whole_at-2 : goal.returns-in_default-whole_at-2
-returns-in_default-whole_at-2 c = search no_c
+pub returns-in_err-c : goal.returns-in_err-c
+returns-in_err-c c = rw c.from_residual-in_err-c.ensures (search (no_c, c.in_ok-a.was, c.in_ok-b.was, c.in_err-c.was))
 
-pub returns-in_default-whole_at-3 : goal.returns-in_default-whole_at-3
-returns-in_default-whole_at-3 c =
-    search (no_d, c.whole_at.ensures, c.in-Is.is, c.whole_at-2.ensures, c.in-Is-whole_at.is)
+pub returns-in_err-d : goal.returns-in_err-d
+returns-in_err-d c = rw c.from_residual-in_err-d.ensures (search (no_d, c.in_ok-a.was, c.in_ok-b.was, c.in_ok-c.was, c.in_err-d.was))
 
 pub returns : goal.returns
-returns c = search four_found
+returns c = search (four_found, c.in_ok-a.was, c.in_ok-b.was, c.in_ok-c.was, c.in_ok-d.was)

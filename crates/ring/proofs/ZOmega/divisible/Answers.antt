@@ -5,11 +5,11 @@ use Rattle.ring.specs.Code.{fits₁}
 use Rattle.ring.specs.Parities.{first_even, first_odd}
 use Rattle.ring.proofs.ZOmega.divisible.Goals as goal
 
-pub overflow_add-b : goal.overflow_add-b
-overflow_add-b c = search (fits₁ (2 ^ 31) (arg 1 ∔ arg 3) tt)
+pub overflow_add-self : goal.overflow_add-self
+overflow_add-self c = search (fits₁ (2 ^ 31) (arg 1 ∔ arg 3) tt)
 
-pub overflow_add-c : goal.overflow_add-c
-overflow_add-c c = search (fits₁ (2 ^ 31) (arg 2 ∔ arg 0) tt)
+pub overflow_add-self-then-not-odd : goal.overflow_add-self-then-not-odd
+overflow_add-self-then-not-odd c = search (fits₁ (2 ^ 31) (arg 2 ∔ arg 0) tt)
 
 pub returns-then-not-odd : goal.returns-then-not-odd
 returns-then-not-odd c = search first_even

@@ -5,5 +5,5 @@ use Rattle.root_two.proofs.Root.over.Goals as goal
 pub returns-then-n-eq0 : goal.returns-then-n-eq0
 returns-then-n-eq0 c = search divided_even
 
-pub returns : goal.returns
-returns c = search divided_odd
+pub returns-else-n-eq0 : goal.returns-else-n-eq0
+returns-else-n-eq0 c = search divided_odd

@@ -5,11 +5,11 @@ use Rattle.rotation.proofs.columns.columns.Goals as goal
 pub twice-m-requires : goal.twice-m-requires
 twice-m-requires c = search straight_twiced
 
-pub x_becomes-x-requires : goal.x_becomes-x-requires
-x_becomes-x-requires c = search x_fit
+pub x_becomes-requires : goal.x_becomes-requires
+x_becomes-requires c = search x_fit
 
-pub y_becomes-y-requires : goal.y_becomes-y-requires
-y_becomes-y-requires c = search y_fit
+pub y_becomes-requires : goal.y_becomes-requires
+y_becomes-requires c = search y_fit
 
 pub returns : goal.returns
 returns c = search columns_made

@@ -3,8 +3,8 @@ use borrow.Author.Rules.{rules}
 use Rattle.rotation.specs.Columns.{conj_in, crossed_twiced, z_made}
 use Rattle.rotation.proofs.columns.z_becomes.Goals as goal
 
-pub mul-product-requires : goal.mul-product-requires
-mul-product-requires c = record { fact_1 = search conj_in; fact_2 = search rules }
+pub mul-requires : goal.mul-requires
+mul-requires c = record { fact_1 = search conj_in; fact_2 = search rules }
 
 pub twice-m-requires : goal.twice-m-requires
 twice-m-requires c = search crossed_twiced

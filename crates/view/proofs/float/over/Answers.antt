@@ -1,18 +1,6 @@
 -- `float::over` meets its contract. Assumes nothing.
-use Rattle.view.proofs.Branches.{doubled_fits, asked_even, shows_even, asked_odd, shows_odd}
+use Rattle.view.proofs.Branches.{shows_even, shows_odd}
 use Rattle.view.proofs.float.over.Goals as goal
-
-pub overflow_add-u : goal.overflow_add-u
-overflow_add-u c =
-    doubled_fits c.args.k c.args.u c.args.v c.requires c.if-k-eq0.true
-
-pub near-requires : goal.near-requires
-near-requires c =
-    asked_even c.args.k c.args.u c.args.v c.requires c.if-k-eq0.true
-
-pub near-requires-else-k-eq0 : goal.near-requires-else-k-eq0
-near-requires-else-k-eq0 c =
-    asked_odd c.args.k c.args.u c.args.v c.requires c.if-k-eq0.false
 
 pub returns-then-k-eq0 : goal.returns-then-k-eq0
 returns-then-k-eq0 c =

@@ -25,15 +25,15 @@ module _ (k : ℕ) (x : ZOmega) (h : (k ≤ 60) × (size (quad x) ≤ 2 ^ k)) wh
   imaginary_handed : over k (held w64 x.b) (held w64 (held w64 x.c +ℤ held w64 x.a)) ≡ imaginary k (quad x)
   imaginary_handed = ap₂ (over k) (is₁ (2 ^ 30) (arg 1) tt x small) (is₁ (2 ^ 30) (arg 2 ∔ arg 0) tt x small)
 
-pub overflow_sub-c : goal.overflow_sub-c
-overflow_sub-c c = fits₁ (2 ^ 30) (arg 2 ∸ arg 0) tt c.args.x (small c.args.k c.args.x c.requires)
+pub overflow_sub-x : goal.overflow_sub-x
+overflow_sub-x c = fits₁ (2 ^ 30) (arg 2 ∸ arg 0) tt c.args.x (small c.args.k c.args.x c.requires)
 
 pub over-requires : goal.over-requires
 over-requires c =
     subst Fit (sym (real_handed c.args.k c.args.x c.requires)) (real_fit c.args.k (quad c.args.x) c.requires.0 c.requires.1)
 
-pub overflow_add-c : goal.overflow_add-c
-overflow_add-c c =
+pub overflow_add-x : goal.overflow_add-x
+overflow_add-x c =
     fits₁ (2 ^ 30) (arg 2 ∔ arg 0) tt c.args.x (small c.args.k c.args.x c.requires)
 
 pub over-requires-2 : goal.over-requires-2

@@ -1,6 +1,0 @@
--- `root_two::Vect::wholes` meets its contract.
-use Rattle.root_two.specs.Common.{common_back}
-use Rattle.root_two.proofs.Vect.wholes.Goals as goal
-
-pub returns : goal.returns
-returns c = search common_back

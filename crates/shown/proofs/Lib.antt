@@ -1,0 +1,2 @@
+-- Numbers in a row.
+pub mod Grown
