@@ -21,11 +21,8 @@ use Rattle.synthesis_of_clifford_t.specs.Meaning.{Synthesis, SynthesiseOutcome}
 use Rattle.circuit.specs.Meaning.{Edition}
 use Rattle.qasm.specs.Meaning.{WriteOutcome, ReadOutcome}
 use Rattle.qasm.specs.declared.Written.{Written as Converted}
-use Rattle.view.specs.declared.Answer.{Answer}
-use Rattle.view.specs.Meaning.Outcome.{ViewOutcome}
-use Rattle.rotation.specs.declared.Answer.{Answer as Rotated}
-use Rattle.rotation.specs.declared.Count.{Count}
-use Rattle.rotation.specs.Meaning.{RotationOutcome, CountOutcome}
+use Rattle.view.specs.Meaning.Outcome.{Answer, ViewOutcome}
+use Rattle.rotation.specs.Meaning.{Answer as Rotated, Count, RotationOutcome, CountOutcome}
 use Rattle.handed.specs.declared.Four.{Four}
 use Rattle.dunrossel.specs.Meaning.Exports.{Reduces, Views, Counts, Rotates, Writes, Synthesises, Converts}
 use Rattle.dunrossel.specs.Meaning.Exports.{argument, Multiplied, Inverted, Parted}
@@ -40,16 +37,6 @@ module _ (k : ℤ) {z w : ZOmega} (zw : List ℤ) (fits : SFits w64 k) (z_is : z
       (subst (λ x. Job (held w64 k) x (w_of zw)) z_is (subst (λ x. Job (held w64 k) z x) w_is h))
 
   module _ (n : ℕ) where
-    pub views : (j : Answer) (out : List Float) → ViewOutcome (held w64 k) n z w j → out ≡ eight_of j.view → Views k n zw (j.refusal, out)
-    views j out o e = record { job = j; outcome = as_given (λ k z w. ViewOutcome k n z w j) o; is = λ i. (j.refusal, e i) }
-
-    pub counts_tees : (j : Count) (out : ℕ) → CountOutcome (held w64 k) n z w j → out ≡ j.tees → Counts k n zw (j.refusal, out)
-    counts_tees j out o e = record { job = j; outcome = as_given (λ k z w. CountOutcome k n z w j) o; is = λ i. (j.refusal, e i) }
-
-    pub rotates : (j : Rotated) (out : List ℤ) → RotationOutcome (held w64 k) n z w j → out ≡ nineteen_of j.rotation
-        → Rotates k n zw (j.refusal, out)
-    rotates j out o e = record { job = j; outcome = as_given (λ k z w. RotationOutcome k n z w j) o; is = λ i. (j.refusal, e i) }
-
     pub synthesises : (numbers : Synthesis → List ℕ) (old new : List ℕ) (j : Synthesis) (out : List ℕ)
         → SynthesiseOutcome (held w64 k) n z w old j new
         → out ≡ numbers j
@@ -79,6 +66,17 @@ module _ (k : ℤ) (n : ℕ) (zw : List ℤ) (fits : SFits w64 k) (t : Triple) (
         outcome = given_in (λ k n z w. ReduceOutcome k n z w (as_checked (Err e))) o;
         is = λ i. (f i, g i);
       }
+
+  -- r and out are what is handed back of j
+  pub views : (j : Answer) (r : ℕ) (out : List Float) → ViewOutcome t.k t.n t.z t.w j → r ≡ j.refusal → out ≡ eight_of j.view → Views k n zw (r, out)
+  views j r out o f e = record { job = j; outcome = given_in (λ k n z w. ViewOutcome k n z w j) o; is = λ i. (f i, e i) }
+
+  pub counts_tees : (j : Count) (r out : ℕ) → CountOutcome t.k t.n t.z t.w j → r ≡ j.refusal → out ≡ j.tees → Counts k n zw (r, out)
+  counts_tees j r out o f e = record { job = j; outcome = given_in (λ k n z w. CountOutcome k n z w j) o; is = λ i. (f i, e i) }
+
+  pub rotates : (j : Rotated) (r : ℕ) (out : List ℤ) → RotationOutcome t.k t.n t.z t.w j → r ≡ j.refusal → out ≡ nineteen_of j.rotation
+      → Rotates k n zw (r, out)
+  rotates j r out o f e = record { job = j; outcome = given_in (λ k n z w. RotationOutcome k n z w j) o; is = λ i. (f i, e i) }
 
 -- ---- words
 pub writes : (Answer : List Letter → List Letter → Type 0) (w old new : List ℕ) (j : Written) (out : List ℕ) → WordOutcome Answer w old j new

@@ -115,33 +115,46 @@ pub fn dunrossel_clifford_coset(x: &[i32; 4], out: &mut [i32; 5])
 pub fn dunrossel_view(k: i64, n: u8, zw: &[i64; 8], out: &mut [f64; 8]) -> u8
     ensures { Views k n zw.now (result, out.new) }
 {
-    let z = handed::z_of(zw);
-    let w = handed::w_of(zw);
-    let answer = view::view(k, n, z, w);
-    let shown = answer.view;
-    handed::put_view(shown, out);
-    answer.refusal
+    match view::view(handed::triple_of(k, n, zw)) {
+        Ok(shown) => {
+            handed::put_view(shown, out);
+            exact::ACCEPTED
+        }
+        Err(refusal) => {
+            *out = [0.0; 8];
+            refusal.number()
+        }
+    }
 }
 
 pub fn dunrossel_t_count(k: i64, n: u8, zw: &[i64; 8], tees: &mut u64) -> u8
     ensures { Counts k n zw.now (result, tees.new) }
 {
-    let z = handed::z_of(zw);
-    let w = handed::w_of(zw);
-    let answer = rotation::t_count(k, n, z, w);
-    *tees = answer.tees as u64;
-    answer.refusal
+    match rotation::t_count(handed::triple_of(k, n, zw)) {
+        Ok(count) => {
+            *tees = count as u64;
+            exact::ACCEPTED
+        }
+        Err(refusal) => {
+            *tees = 0;
+            refusal.number()
+        }
+    }
 }
 
 pub fn dunrossel_rotation(k: i64, n: u8, zw: &[i64; 8], out: &mut [i64; 19]) -> u8
     ensures { Rotates k n zw.now (result, out.new) }
 {
-    let z = handed::z_of(zw);
-    let w = handed::w_of(zw);
-    let answer = rotation::rotate(k, n, z, w);
-    let turned = answer.rotation;
-    handed::put_rotation(turned, out);
-    answer.refusal
+    match rotation::rotate(handed::triple_of(k, n, zw)) {
+        Ok(turned) => {
+            handed::put_rotation(turned, out);
+            exact::ACCEPTED
+        }
+        Err(refusal) => {
+            *out = [0; 19];
+            refusal.number()
+        }
+    }
 }
 
 pub fn dunrossel_synthesise(k: i64, n: u8, zw: &[i64; 8], buf: &mut [u8], out: &mut [u64; 3]) -> u8

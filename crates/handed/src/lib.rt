@@ -141,24 +141,28 @@ pub fn put_view(v: View, out: &mut [f64; 8])
 pub fn put_rotation(r: Rotation, out: &mut [i64; 19])
     ensures { out.new ≡ nineteen_of r }
 {
-    let x = r.x;
-    let y = r.y;
-    let z = r.z;
-    let e = wide(r.e);
-    let xx = x.x;
-    let xy = x.y;
-    let xz = x.z;
-    let yx = y.x;
-    let yy = y.y;
-    let yz = y.z;
-    let zx = z.x;
-    let zy = z.y;
-    let zz = z.z;
-    let numbers = [
-        e, xx.p, xx.q, yx.p, yx.q, zx.p, zx.q, xy.p, xy.q, yy.p, yy.q, zy.p, zy.q, xz.p, xz.q,
-        yz.p, yz.q, zz.p, zz.q,
+    let Rotation { x, y, z, e } = r;
+    *out = [
+        wide(e),
+        x.x.p,
+        x.x.q,
+        y.x.p,
+        y.x.q,
+        z.x.p,
+        z.x.q,
+        x.y.p,
+        x.y.q,
+        y.y.p,
+        y.y.q,
+        z.y.p,
+        z.y.q,
+        x.z.p,
+        x.z.q,
+        y.z.p,
+        y.z.q,
+        z.z.p,
+        z.z.q,
     ];
-    *out = numbers;
 }
 
 pub fn put_synthesis(answer: Synthesis, out: &mut [u64; 3])

@@ -11,11 +11,8 @@ use Rattle.synthesis_of_clifford_t.specs.Meaning.{Synthesis, SynthesiseOutcome}
 use Rattle.qasm.specs.declared.Written.{Written as Converted}
 use Rattle.slot.specs.declared.Answer.{Answer as Measured}
 use Rattle.slot.specs.Meaning.{slot_of, Left, LengthOutcome, AddOutcome}
-use Rattle.view.specs.declared.Answer.{Answer}
-use Rattle.view.specs.Meaning.Outcome.{ViewOutcome}
-use Rattle.rotation.specs.declared.Answer.{Answer as Rotated}
-use Rattle.rotation.specs.declared.Count.{Count}
-use Rattle.rotation.specs.Meaning.{RotationOutcome, CountOutcome}
+use Rattle.view.specs.Meaning.Outcome.{Answer, ViewOutcome}
+use Rattle.rotation.specs.Meaning.{Answer as Rotated, Count, RotationOutcome, CountOutcome}
 use Rattle.handed.specs.Meaning.{z_of, w_of, ten, eight_of, nineteen_of, counts, counts_in, four_of, five_of}
 
 -- ---- triples: zw is z.a z.b z.c z.d w.a w.b w.c w.d; the ten are k, n, then zw
