@@ -29,22 +29,7 @@ use Rattle.dunrossel.specs.Meaning.Exports.{argument, Multiplied, Inverted, Part
 use Rattle.handed.specs.Meaning.{z_of, w_of, triple_of, ten, eight_of, nineteen_of, counts, counts_in, four_of, five_of, listed}
 use Rattle.handed.specs.Numbers.{held_small}
 
--- ---- triples: what was said of the numbers read back is said of those handed in
-module _ (k : ℤ) {z w : ZOmega} (zw : List ℤ) (fits : SFits w64 k) (z_is : z ≡ z_of zw) (w_is : w ≡ w_of zw) where
-  as_given : (Job : ℤ → ZOmega → ZOmega → Type 0) → Job (held w64 k) z w → Job k (z_of zw) (w_of zw)
-  as_given Job h =
-      subst (λ y. Job y (z_of zw) (w_of zw)) (to_z-of_z fits)
-      (subst (λ x. Job (held w64 k) x (w_of zw)) z_is (subst (λ x. Job (held w64 k) z x) w_is h))
-
-  module _ (n : ℕ) where
-    pub synthesises : (numbers : Synthesis → List ℕ) (old new : List ℕ) (j : Synthesis) (out : List ℕ)
-        → SynthesiseOutcome (held w64 k) n z w old j new
-        → out ≡ numbers j
-        → Synthesises numbers k n zw old (j.refusal, (out, new))
-    synthesises numbers old new j out o e =
-        record { job = lent j new; outcome = as_given (λ k z w. SynthesiseOutcome k n z w old j new) o; is = λ i. (j.refusal, (e i, new)) }
-
--- ---- the same of a triple, whose exponent the machine has read back
+-- ---- a triple, whose exponent the machine has read back: what was said of it is said of the numbers handed in
 module _ (k : ℤ) (n : ℕ) (zw : List ℤ) (fits : SFits w64 k) (t : Triple) (t_is : t ≡ triple_of (held w64 k) n zw) where
   given_in : (Job : ℤ → ℕ → ZOmega → ZOmega → Type 0) → Job t.k t.n t.z t.w → Job k n (z_of zw) (w_of zw)
   given_in Job = subst (λ (x : Triple). Job x.k x.n x.z x.w) (t_is ∙ ap (λ (y : ℤ). triple_of y n zw) (to_z-of_z fits))
@@ -78,10 +63,20 @@ module _ (k : ℤ) (n : ℕ) (zw : List ℤ) (fits : SFits w64 k) (t : Triple) (
       → Rotates k n zw (r, out)
   rotates j r out o f e = record { job = j; outcome = given_in (λ k n z w. RotationOutcome k n z w j) o; is = λ i. (f i, e i) }
 
+  pub synthesises : (numbers : Synthesis → List ℕ) (old new : List ℕ) (j : Synthesis) (r : ℕ) (out : List ℕ)
+      → SynthesiseOutcome t.k t.n t.z t.w old j new → r ≡ j.refusal → out ≡ numbers j
+      → Synthesises numbers k n zw old (r, (out, new))
+  synthesises numbers old new j r out o f g =
+      record {
+        job = lent j new;
+        outcome = given_in (λ k n z w. SynthesiseOutcome k n z w old j new) o;
+        is = λ i. (f i, (g i, new));
+      }
+
 -- ---- words
-pub writes : (Answer : List Letter → List Letter → Type 0) (w old new : List ℕ) (j : Written) (out : List ℕ) → WordOutcome Answer w old j new
-    → out ≡ counts j → Writes Answer w old (j.refusal, (out, new))
-writes Answer w old new j out o e = record { job = lent j new; outcome = o; is = λ i. (j.refusal, (e i, new)) }
+pub writes : (Answer : List Letter → List Letter → Type 0) (w old new : List ℕ) (j : Written) (r : ℕ) (out : List ℕ)
+    → WordOutcome Answer w old j new → r ≡ j.refusal → out ≡ counts j → Writes Answer w old (r, (out, new))
+writes Answer w old new j r out o f g = record { job = lent j new; outcome = o; is = λ i. (f i, (g i, new)) }
 
 converts : (Job : Converted → List ℕ → Type 0) (new : List ℕ) (j : Converted) (out : List ℕ) → Job j new → out ≡ counts_in j
     → Converts Job (j.refusal, (out, new))
