@@ -33,8 +33,7 @@ use Rattle.steps.proofs.Synthesised.{synthesised}
 use Rattle.synthesis_of_clifford_t.specs.Meaning.{Synthesis, Spelling, SpellingOf}
 use Rattle.synthesis_of_clifford_t.proofs.OneMatrix.{seen}
 use Rattle.synthesis_of_clifford_t.proofs.Cheapest.{synthesised_cheapest}
-use Rattle.rotation.specs.declared.Count.{Count}
-use Rattle.rotation.specs.Meaning.{refused_count, AnswersCount, CountOutcome}
+use Rattle.rotation.specs.Meaning.{Count, refused_count, AnswersCount, CountOutcome}
 use Rattle.rotation.specs.Answers.{counted}
 use Rattle.handed.specs.Meaning.{z_of, w_of, counts_of, steps_of}
 use Rattle.dunrossel.specs.Meaning.Exports.{Writes, Synthesises}

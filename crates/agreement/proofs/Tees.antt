@@ -17,8 +17,7 @@ use Rattle.ring.specs.Meaning.{quad}
 use Rattle.ring.specs.declared.ZOmega.{ZOmega}
 use Rattle.synthesis_of_clifford_t.specs.Meaning.{Synthesis, text, refused, counts, SpellingOf, asked, SynthesiseOutcome}
 use Rattle.synthesis_of_clifford_t.proofs.Enough.{answer_short}
-use Rattle.rotation.specs.declared.Count.{Count}
-use Rattle.rotation.specs.Meaning.{refused_count, AnswersCount, CountOutcome}
+use Rattle.rotation.specs.Meaning.{Count, refused_count, AnswersCount, CountOutcome}
 use Rattle.rotation.specs.Unique.{count_unique}
 use Rattle.rotation.specs.Answers.{exponent_is}
 use Rattle.handed.specs.Meaning.{z_of, w_of, counts_of}

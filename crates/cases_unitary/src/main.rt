@@ -6,43 +6,38 @@ use std::io::Write;
 use std::{array, io};
 use unitary::DOmegaUnitary;
 
-fn triple(k: i64, n: u8, z: ZOmega, w: ZOmega) -> Triple {
-    Triple { k, n, z, w }
-}
+// Shown for the matrix of a refusal.
+const NOUGHT: DOmegaUnitary = DOmegaUnitary {
+    z: ZOmega::ZERO,
+    w: ZOmega::ZERO,
+    n: 0,
+    k: 0,
+};
 
 fn matrix<W: Write>(out: &mut W, t: DOmegaUnitary) -> io::Result<()> {
     writeln!(out, " k={} n={} z={} w={}", t.k, t.n, t.z, t.w)
 }
 
-// A refusal leaves zeros.
-fn no_matrix<W: Write>(out: &mut W) -> io::Result<()> {
-    writeln!(out, " k=0 n=0 z=0,0,0,0 w=0,0,0,0")
-}
-
 fn reduced<W: Write>(out: &mut W, label: &str, t: Triple) -> io::Result<()> {
-    match unitary::reduce(t) {
-        Ok(m) => {
-            write!(out, "{label}: refusal=0")?;
-            matrix(out, m)
-        }
-        Err(e) => {
-            write!(out, "{label}: refusal={}", e.number())?;
-            no_matrix(out)
-        }
-    }
+    let (refusal, answer) = match unitary::reduce(t) {
+        Ok(answer) => (exact::ACCEPTED, answer),
+        Err(refusal) => (refusal.number(), NOUGHT),
+    };
+    write!(out, "{label}: refusal={refusal}")?;
+    matrix(out, answer)
 }
 
 fn of_word<W: Write>(out: &mut W, label: &str, word: &[u8]) -> io::Result<()> {
-    match unitary::from_gates(word) {
-        Ok(m) => {
-            write!(out, "{label}: refusal=0 place=0")?;
-            matrix(out, m)
-        }
-        Err(e) => {
-            write!(out, "{label}: refusal={} place={}", e.number(), e.place())?;
-            no_matrix(out)
-        }
-    }
+    let (refusal, place, answer) = match unitary::from_gates(word) {
+        Ok(answer) => (exact::ACCEPTED, 0, answer),
+        Err(refusal) => (refusal.number(), refusal.place(), NOUGHT),
+    };
+    write!(out, "{label}: refusal={refusal} place={place}")?;
+    matrix(out, answer)
+}
+
+fn given(k: i64, n: u8, z: ZOmega, w: ZOmega) -> Triple {
+    Triple { k, n, z, w }
 }
 
 fn triples<W: Write>(out: &mut W) -> io::Result<()> {
@@ -55,20 +50,20 @@ fn triples<W: Write>(out: &mut W) -> io::Result<()> {
     let under = ZOmega::new(-1073741825, 0, 0, 0);
     let crossed = ZOmega::new(0, 0, 1, 1);
     let wide = ZOmega::new(9223372036854775807, 0, 0, 0);
-    reduced(out, "identity", triple(0, 0, one, zero))?;
-    reduced(out, "k=60", triple(60, 0, top, zero))?;
-    reduced(out, "k=60, n=255", triple(60, 255, low, zero))?;
-    reduced(out, "k=61", triple(61, 0, top, zero))?;
-    reduced(out, "k=-1", triple(-1, 0, one, zero))?;
-    reduced(out, "k least", triple(-9223372036854775807, 0, wide, wide))?;
-    reduced(out, "2^30+1", triple(60, 0, over, zero))?;
-    reduced(out, "-2^30-1", triple(60, 0, zero, under))?;
-    reduced(out, "widest", triple(60, 0, zero, wide))?;
-    reduced(out, "only the squares fit", triple(1, 0, crossed, zero))?;
-    reduced(out, "z=w=1, k=0", triple(0, 0, one, one))?;
-    reduced(out, "z=w=1, k=1", triple(1, 4, one, one))?;
-    reduced(out, "identity at k=1", triple(1, 0, root, zero))?;
-    reduced(out, "z=0", triple(0, 9, zero, one))
+    reduced(out, "identity", given(0, 0, one, zero))?;
+    reduced(out, "k=60", given(60, 0, top, zero))?;
+    reduced(out, "k=60, n=255", given(60, 255, low, zero))?;
+    reduced(out, "k=61", given(61, 0, top, zero))?;
+    reduced(out, "k=-1", given(-1, 0, one, zero))?;
+    reduced(out, "k least", given(-9223372036854775807, 0, wide, wide))?;
+    reduced(out, "2^30+1", given(60, 0, over, zero))?;
+    reduced(out, "-2^30-1", given(60, 0, zero, under))?;
+    reduced(out, "widest", given(60, 0, zero, wide))?;
+    reduced(out, "only the squares fit", given(1, 0, crossed, zero))?;
+    reduced(out, "z=w=1, k=0", given(0, 0, one, one))?;
+    reduced(out, "z=w=1, k=1", given(1, 4, one, one))?;
+    reduced(out, "identity at k=1", given(1, 0, root, zero))?;
+    reduced(out, "z=0", given(0, 9, zero, one))
 }
 
 fn words<W: Write>(out: &mut W) -> io::Result<()> {

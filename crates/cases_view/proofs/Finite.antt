@@ -1,5 +1,5 @@
 -- The eight numbers of job 7's answer are no NaN, so that each has a bit pattern. Assumes nothing.
-use Rattle.std.specs.Prelude.{Bool, not, ℕ, T, ℤ, Float}
+use Rattle.std.specs.Prelude.{Bool, not, ℕ, T, ℤ, Float, Ok}
 use Rattle.std.specs.Float.{nan, inf, fin}
 use Rattle.std.specs.Float.Ieee.{is_nan, of_bits}
 use Rattle.std.specs.Float.Ieee.Exact.{HasValue}
@@ -11,8 +11,8 @@ use Rattle.ring.specs.declared.ZOmega.{ZOmega}
 use Rattle.unitary.specs.Meaning.{given}
 use Rattle.view.specs.Meaning.Surd.{Surd}
 use Rattle.view.specs.Meaning.Near.{Shows}
-use Rattle.view.specs.Meaning.Outcome.{nil, nothing, refused, Views, ViewOutcome}
-use Rattle.view.specs.declared.Answer.{Answer}
+use Rattle.view.specs.declared.matrix.View.{View}
+use Rattle.view.specs.Meaning.Outcome.{Answer, as_answer, nil, nothing, refused, Views, ViewOutcome}
 use Rattle.cases_view.specs.Finite.{Finite}
 
 no_nan : (x : Float) (s : Bool) (a c : ℕ) → HasValue x s a c → T (not (is_nan x))
@@ -48,3 +48,6 @@ viewed o h =
 pub finite : (k : ℤ) (n : ℕ) (z w : ZOmega) (o : Answer) → ViewOutcome k n z w o → Finite o.view
 finite k n z w =
     always refused (Views (given k n z w)) (λ (o : Answer). Finite o.view) (λ n p. zeros) (checks k (quad z) (quad w)) (λ h. viewed)
+
+pub finite_view : (k : ℤ) (n : ℕ) (z w : ZOmega) (v : View) → ViewOutcome k n z w (as_answer (Ok v)) → Finite v
+finite_view k n z w v = finite k n z w (as_answer (Ok v))

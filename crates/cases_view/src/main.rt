@@ -3,15 +3,13 @@
 
 ghost use Rattle.cases_view.specs.Finite.{Finite};
 
-use ring::ZOmega;
-use shown::{number, text};
+use ring::{Triple, ZOmega};
 use std::io;
 use std::io::Write;
 use view::matrix::View;
 
 fn line<W: Write>(out: &mut W, bits: u64) -> io::Result<()> {
-    write!(out, "{bits:016x}")?;
-    text(out, b"\n")
+    writeln!(out, "{bits:016x}")
 }
 
 fn lines<W: Write>(out: &mut W, v: View) -> io::Result<()>
@@ -27,44 +25,36 @@ fn lines<W: Write>(out: &mut W, v: View) -> io::Result<()>
     line(out, f64::to_bits(v.im11))
 }
 
-fn case<W: Write>(
-    out: &mut W,
-    label: &[u8],
-    k: i64,
-    n: u8,
-    z: ZOmega,
-    w: ZOmega,
-) -> io::Result<()> {
-    let o = view::view(k, n, z, w);
-    let v = o.view;
-    text(out, label)?;
-    text(out, b": refusal=")?;
-    number(out, o.refusal as u64)?;
-    text(out, b"\n")?;
-    lines(out, v)
+// The triple's four parts one by one, so that a case is a line. A refusal's numbers are eight zeros.
+fn case<W: Write>(out: &mut W, label: &str, k: i64, n: u8, z: ZOmega, w: ZOmega) -> io::Result<()> {
+    match view::view(Triple { k, n, z, w }) {
+        Ok(v) => {
+            writeln!(out, "{label}: refusal=0")?;
+            lines(out, v)
+        }
+        Err(refusal) => {
+            writeln!(out, "{label}: refusal={}", refusal.number())?;
+            lines(out, View::default())
+        }
+    }
 }
 
 fn number_of(a: i64, b: i64, c: i64, d: i64) -> ZOmega {
-    ZOmega {
-        a: a,
-        b: b,
-        c: c,
-        d: d,
-    }
+    ZOmega { a, b, c, d }
 }
 
 fn views<W: Write>(out: &mut W) -> io::Result<()> {
     let nil = number_of(0, 0, 0, 0);
     let one = number_of(0, 0, 0, 1);
-    case(out, b"identity", 0, 0, one, nil)?;
-    case(out, b"H", 1, 4, one, one)?;
-    case(out, b"T", 0, 1, one, nil)?;
-    case(out, b"X", 0, 4, nil, one)?;
-    case(out, b"n=255", 0, 255, one, nil)?;
-    case(out, b"k=60", 60, 0, number_of(0, 0, 0, 1073741824), nil)?;
+    case(out, "identity", 0, 0, one, nil)?;
+    case(out, "H", 1, 4, one, one)?;
+    case(out, "T", 0, 1, one, nil)?;
+    case(out, "X", 0, 4, nil, one)?;
+    case(out, "n=255", 0, 255, one, nil)?;
+    case(out, "k=60", 60, 0, number_of(0, 0, 0, 1073741824), nil)?;
     case(
         out,
-        b"k=60, reduced",
+        "k=60, reduced",
         60,
         1,
         number_of(-191924351, -210280441, 4968170, -439776288),
@@ -72,7 +62,7 @@ fn views<W: Write>(out: &mut W) -> io::Result<()> {
     )?;
     case(
         out,
-        b"k=59, reduced",
+        "k=59, reduced",
         59,
         5,
         number_of(-100413179, 84257655, 280559047, -81296202),
@@ -83,12 +73,12 @@ fn views<W: Write>(out: &mut W) -> io::Result<()> {
 fn refusals<W: Write>(out: &mut W) -> io::Result<()> {
     let nil = number_of(0, 0, 0, 0);
     let one = number_of(0, 0, 0, 1);
-    case(out, b"k=61", 61, 0, one, nil)?;
-    case(out, b"k=-1", -1, 0, one, nil)?;
-    case(out, b"2^30+1", 60, 0, number_of(0, 0, 0, 1073741825), nil)?;
-    case(out, b"-2^30-1", 60, 0, nil, number_of(-1073741825, 0, 0, 0))?;
-    case(out, b"squares", 0, 0, one, one)?;
-    case(out, b"crosses", 1, 0, number_of(0, 0, 1, 1), nil)
+    case(out, "k=61", 61, 0, one, nil)?;
+    case(out, "k=-1", -1, 0, one, nil)?;
+    case(out, "2^30+1", 60, 0, number_of(0, 0, 0, 1073741825), nil)?;
+    case(out, "-2^30-1", 60, 0, nil, number_of(-1073741825, 0, 0, 0))?;
+    case(out, "squares", 0, 0, one, one)?;
+    case(out, "crosses", 1, 0, number_of(0, 0, 1, 1), nil)
 }
 
 fn main(rt: HostRuntime) -> io::Result<()> {

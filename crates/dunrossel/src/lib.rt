@@ -9,14 +9,13 @@ ghost use Rattle.dunrossel.specs.Meaning.Exports.{Writes, Extends, Measures, Syn
 ghost use Rattle.dunrossel.specs.Meaning.Exports.{Multiplied, Inverted, Parted};
 ghost use Rattle.dunrossel.specs.Meaning.Bench.{NumbersOutcome, BenchOutcome};
 ghost use Rattle.handed.specs.Meaning.{counts_of, steps_of};
-ghost use Rattle.record.specs.Meaning.{numbers};
+ghost use Rattle.record.specs.Meaning.{numbers, taken_record};
 ghost use Rattle.normal_form.specs.Meaning.{Normalises, DropsPhase};
 ghost use Rattle.circuit.specs.Meaning.{two, three};
 ghost use Rattle.qasm.specs.Meaning.{WriteOutcome, ReadOutcome};
 
 use qasm::Edition;
-use record::Record;
-use ring::{Triple, ZOmega};
+use ring::Triple;
 
 pub fn dunrossel_reduce(k: i64, n: u8, zw: &[i64; 8], out: &mut [i64; 10]) -> u8
     ensures { Reduces k n zw.now (result, out.new) }
@@ -238,33 +237,17 @@ pub fn dunrossel_qasm_read(text: &[u8], buf: &mut [u8], out: &mut [u64; 2]) -> u
 // The answer to a right record, by job 4. It stays a call: where the compiler sees whose memory the word is in, it copies it by memcpy, and the
 // archive is to need memset alone.
 #[inline(never)]
-fn answer_record(r: Record, word: &mut [u8], out: &mut [u8]) -> usize
+fn answer_record(t: Triple, word: &mut [u8], out: &mut [u8]) -> usize
     requires fact_1 { enough ≤ length word.old }
     requires fact_2 { 512 ≤ length out.old }
-    ensures { NumbersOutcome (numbers r) out.old (lent result out.new) }
+    ensures { NumbersOutcome (numbers (taken_record t)) out.old (lent result out.new) }
 {
-    let t = Triple {
-        k: r.k,
-        n: r.n,
-        z: ZOmega {
-            a: r.za,
-            b: r.zb,
-            c: r.zc,
-            d: r.zd,
-        },
-        w: ZOmega {
-            a: r.wa,
-            b: r.wb,
-            c: r.wc,
-            d: r.wd,
-        },
-    };
     match synthesis_of_clifford_t::synthesise(t, word) {
-        Ok(answer) => record::write(
+        Ok(spelt) => record::write(
             exact::ACCEPTED,
-            &word[..answer.bytes],
-            answer.tees as u64,
-            answer.steps as u64,
+            &word[..spelt.bytes],
+            spelt.tees as u64,
+            spelt.steps as u64,
             out,
         ),
         Err(refusal) => record::write(refusal.number(), b"", 0, 0, out),
@@ -274,10 +257,8 @@ fn answer_record(r: Record, word: &mut [u8], out: &mut [u8]) -> usize
 pub fn dunrossel_bench(text: &[u8], out: &mut [u8; 512]) -> usize
     ensures { BenchOutcome text.now out.old result out.new }
 {
-    let r = record::read(text);
-    if r.refusal != 0 {
-        return record::write(r.refusal, b"", 0, 0, out);
+    match record::read(text) {
+        Ok(t) => answer_record(t, &mut exact::word_buffer(), out),
+        Err(malformed) => record::write(malformed.number(), b"", 0, 0, out),
     }
-    let mut word = exact::word_buffer();
-    answer_record(r, &mut word, out)
 }
