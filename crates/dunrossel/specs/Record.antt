@@ -1,7 +1,9 @@
 -- From job 4, lent enough bytes, to what the bench program answers: its word is there, refusal 7 can't arise, and its text is printed.
 -- Assumes nothing.
-use Rattle.std.specs.Prelude.{◌≡◌, refl, List, [], ℕ, ◌≤◌, length, take, drop}
+use Rattle.std.specs.Prelude.{◌≡◌, refl, List, [], ℕ, ◌<◌, ◌≤◌, ◌^◌, ℤ, length, take, drop}
 use Rattle.std.proofs.Common.{sym, ◌∙◌, ap, subst, arith, length-append, length-take-le}
+use Rattle.std.specs.Int.Signed.{mag}
+use Rattle.std.specs.Int.{w64}
 use Rattle.exact.specs.Meaning.Word.{tees, bytes}
 use Rattle.exact.specs.Meaning.Limits.{enough, no_refusal}
 use Rattle.exact.specs.Meaning.Outcome.{Rung, Outcome, none, ◌then◌}
@@ -9,19 +11,63 @@ use Rattle.exact.specs.Meaning.Lent.{Lent, lent, over, untouched, Writes}
 use Rattle.exact.specs.Meaning.Refusals.{checks, TooMany, room, malformed}
 use Rattle.exact.specs.Meaning.Record.{Numbers, answer_text}
 use Rattle.exact.proofs.Cases.Letters.{bytes_length}
+use Rattle.exact.proofs.Whole.Machine.{held}
 use Rattle.exact.proofs.Outcomes.Ladder.{Passed, answered, always, carry}
 use Rattle.exact.proofs.Outcomes.Checked.{Taken, checks_taken}
 use Rattle.exact.proofs.Outcomes.Lent.{text_there}
+use Rattle.ring.specs.declared.ZOmega.{ZOmega}
 use Rattle.unitary.specs.Triples.{number}
 use Rattle.synthesis_of_clifford_t.specs.Meaning as Job4
 use Rattle.synthesis_of_clifford_t.specs.Meaning.{Synthesis, SpellingOf, SynthesiseOutcome}
 use Rattle.synthesis_of_clifford_t.proofs.Enough.{answer_short, bytes_there, bytes_few}
 use Rattle.record.specs.Meaning.{Record, numbers, ReadOutcome, WriteOutcome}
 use Rattle.dunrossel.specs.Meaning.Bench.{printed, refused, word_text, word_size, asked, NumbersOutcome, OfRecord, BenchOutcome}
+use Rattle.handed.specs.Numbers.{held_is}
 
 -- job 4 on a record's numbers
 abbrev pub Job4Of : Numbers → List ℕ → Synthesis → List ℕ → Type 0
 Job4Of x old j new = SynthesiseOutcome x.k x.n (number x.z) (number x.w) old j new
+
+-- as the machine reads them back
+pub record Fits64 (r : Record) : Type 0 where
+  pub k_fits : mag r.k < 2 ^ 63
+  pub za_fits : mag r.za < 2 ^ 63
+  pub zb_fits : mag r.zb < 2 ^ 63
+  pub zc_fits : mag r.zc < 2 ^ 63
+  pub zd_fits : mag r.zd < 2 ^ 63
+  pub wa_fits : mag r.wa < 2 ^ 63
+  pub wb_fits : mag r.wb < 2 ^ 63
+  pub wc_fits : mag r.wc < 2 ^ 63
+  pub wd_fits : mag r.wd < 2 ^ 63
+
+abbrev held_of : ℤ → ℤ → ℤ → ℤ → ZOmega
+held_of a b c d = record { a = held w64 a; b = held w64 b; c = held w64 c; d = held w64 d }
+
+pub job4_of : (r : Record) (old : List ℕ) (j : Synthesis) (new : List ℕ) → Fits64 r
+    → SynthesiseOutcome (held w64 r.k) r.n (held_of r.za r.zb r.zc r.zd) (held_of r.wa r.wb r.wc r.wd) old j new
+    → Job4Of (numbers r) old j new
+job4_of r old j new f o =
+    subst (λ (k : ℤ). SynthesiseOutcome k r.n (number (numbers r).z) (number (numbers r).w) old j new) (held_is r.k f.k_fits)
+    (subst (λ (z : ZOmega). SynthesiseOutcome (held w64 r.k) r.n z (number (numbers r).w) old j new) z_is
+    (subst (λ (w : ZOmega). SynthesiseOutcome (held w64 r.k) r.n (held_of r.za r.zb r.zc r.zd) w old j new) w_is o))
+  where
+    z_is : held_of r.za r.zb r.zc r.zd ≡ number (numbers r).z
+    z_is = λ i.
+        record {
+          a = held_is r.za f.za_fits i;
+          b = held_is r.zb f.zb_fits i;
+          c = held_is r.zc f.zc_fits i;
+          d = held_is r.zd f.zd_fits i;
+        }
+
+    w_is : held_of r.wa r.wb r.wc r.wd ≡ number (numbers r).w
+    w_is = λ i.
+        record {
+          a = held_is r.wa f.wa_fits i;
+          b = held_is r.wb f.wb_fits i;
+          c = held_is r.wc f.wc_fits i;
+          d = held_is r.wd f.wd_fits i;
+        }
 
 -- ---- 376 bytes are enough
 module _ (x : Numbers) (taken : Taken x.k x.z x.w) where

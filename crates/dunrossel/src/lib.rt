@@ -15,6 +15,7 @@ ghost use Rattle.normal_form.specs.Meaning.{Normalises, DropsPhase};
 ghost use Rattle.circuit.specs.Meaning.{two, three};
 ghost use Rattle.qasm.specs.Meaning.{WriteOutcome, ReadOutcome};
 
+use clifford::Four;
 use exact::Refusal;
 use qasm::Edition;
 use ring::Triple;
@@ -118,25 +119,21 @@ pub fn dunrossel_slot_length(syllables: &[u8; 4096], rest: &[u64; 6], length: &m
 pub fn dunrossel_clifford_product(x: &[i32; 4], y: &[i32; 4], out: &mut [i32; 4])
     ensures { Multiplied x.now y.now out.new }
 {
-    let p = handed::four_of(x);
-    let q = handed::four_of(y);
-    let answer = clifford::clifford_product(p.a, p.b, p.c, p.d, q.a, q.b, q.c, q.d);
+    let answer = clifford::clifford_product(Four::from(*x), Four::from(*y));
     handed::put_clifford(answer, out);
 }
 
 pub fn dunrossel_clifford_inverse(x: &[i32; 4], out: &mut [i32; 4])
     ensures { Inverted x.now out.new }
 {
-    let q = handed::four_of(x);
-    let answer = clifford::clifford_inverse(q.a, q.b, q.c, q.d);
+    let answer = clifford::clifford_inverse(Four::from(*x));
     handed::put_clifford(answer, out);
 }
 
 pub fn dunrossel_clifford_coset(x: &[i32; 4], out: &mut [i32; 5])
     ensures { Parted x.now out.new }
 {
-    let q = handed::four_of(x);
-    let answer = clifford::clifford_split(q.a, q.b, q.c, q.d);
+    let answer = clifford::clifford_split(Four::from(*x));
     handed::put_coset(answer, out);
 }
 

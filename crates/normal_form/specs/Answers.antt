@@ -126,6 +126,9 @@ module _ (w items : List ℕ) (x : Result Reading Refusal) (l : length w ≤ 409
     reads : Reads w items (Ok r)
     reads = subst (Reads w items) e s
 
+    pub readable : Readable items r
+    readable = record { st = run start (letters_of w); holds = reads.1 }
+
     pub count_most : r.count ≤ 4096
     count_most = omega (arith, count_few items r w (length w) whole (omega arith))
       where

@@ -14,6 +14,7 @@ ghost use Rattle.exact.specs.Algebra.Twos.{Multiple, Shares};
 ghost use Rattle.ring.specs.Meaning.{quad};
 ghost use Rattle.ring.specs.Number.{Small};
 
+// No size stands in the type: job 1 is handed any coefficients, and a sum of two small numbers need not be small.
 #[derive(Clone, Copy)]
 pub struct ZOmega {
     pub a: i64,
@@ -57,6 +58,26 @@ fn parity(x: i64) -> u8
 }
 
 impl ZOmega {
+    pub const ZERO: ZOmega = ZOmega {
+        a: 0,
+        b: 0,
+        c: 0,
+        d: 0,
+    };
+
+    pub const ONE: ZOmega = ZOmega {
+        a: 0,
+        b: 0,
+        c: 0,
+        d: 1,
+    };
+
+    pub fn new(a: i64, b: i64, c: i64, d: i64) -> ZOmega
+        ensures { quad result ≡ record { a = a; b = b; c = c; d = d } }
+    {
+        ZOmega { a, b, c, d }
+    }
+
     pub fn add(self, o: ZOmega) -> ZOmega
         requires fact_1 { Small self }
         requires fact_2 { Small o }

@@ -1,11 +1,13 @@
 -- What power of root two divides all nine entries, told by the trailing zeros of two numbers: the `or` of all p, and that of all q. Assumes nothing.
-use Rattle.std.specs.Prelude.{◌≡◌, ℕ, suc, ◌+◌, ◌-◌, ◌*◌, ◌/◌, ◌%◌, ◌≤◌, ◌<◌, min, ℤ, pos, nat_abs}
-use Rattle.std.proofs.Common.{sym, ◌∙◌, ap, subst, arith, SFits, of_z, to_z, to_z-of_z}
-use Rattle.std.specs.Int.{w64}
+use Rattle.std.specs.Prelude.{◌≡◌, refl, ℕ, zero, suc, ◌+◌, ◌-◌, ◌*◌, ◌/◌, ◌%◌, ◌≤◌, ◌<◌, min, ℤ, pos, negsuc, nat_abs}
+use Rattle.std.proofs.Common.{sym, ◌∙◌, ap, subst, arith, Fits, SFits, of_z, to_z, to_z-of_z}
+use Rattle.std.specs.Int.{w8, w64}
+use Rattle.std.specs.Int.Count.{count_trailing_zeros, trailing_of_zero}
 use Rattle.exact.specs.Meaning.Rotation.{Root, Three, Vect, lift}
 use Rattle.exact.proofs.Whole.Machine.{held}
 use Rattle.exact.specs.Whole.Twos.{TwoTo, Zeros}
 use Rattle.exact.proofs.Whole.Twos.{less_often}
+use Rattle.ring.specs.Trailing.{counted}
 use Rattle.root_two.specs.Common.{Common, SharesP, SharesQ}
 use Rattle.exact.specs.Algebra.RootPower.{DividesR}
 use Rattle.exact.specs.Rotation.Least.{DividesV, Divides, Deepest, lifts}
@@ -29,6 +31,27 @@ pub twos_some : (x : ℤ) (n : ℕ) → SFits w64 x → (of_z w64 x ≡ 0 → �
 twos_some x n f some z =
     let y = subst (λ (w : ℤ). Zeros w n) (to_z-of_z f) z in
     record { so_often = y.so_often; no_more = λ l. y.no_more (λ e. some (ap (of_z w64) e)); few = omega (arith, y.few) }
+
+-- by the bits of its size
+nought : (z : ℤ) → nat_abs z ≡ 0 → z ≡ pos 0
+nought (pos n) e = ap pos e
+nought (negsuc n) e = absurd (omega arith)
+
+module _ (x : ℤ) (f : SFits w64 x) (s : ℕ) (is : s ≡ nat_abs (held w64 x)) where
+  pub twos_counted : TwosIn x (count_trailing_zeros 64 s)
+  twos_counted = go s refl
+    where
+      go : (m : ℕ) → s ≡ m → TwosIn x (count_trailing_zeros 64 s)
+      go zero e =
+          rw (e, trailing_of_zero 64)
+          (twos_nought x f (ap (of_z w64) (nought x (ap nat_abs (sym (to_z-of_z f)) ∙ sym is ∙ e))))
+      go (suc m) e =
+          let some : s ≡ 0 → ⊥ = omega arith in
+          twos_some x (count_trailing_zeros 64 s) f (λ h. some (is ∙ ap (λ n. nat_abs (to_z w64 n)) h))
+          (subst (λ (y : ℤ). Zeros y (count_trailing_zeros 64 s)) (sym (to_z-of_z f)) (counted x f s is some))
+
+  pub twos_cast : Fits w8 (count_trailing_zeros 64 s)
+  twos_cast = record { fits = omega (arith, twos_counted.few) }
 
 -- ---- all nine
 -- 2 to the j divides that part of each

@@ -1,10 +1,11 @@
--- Two outcomes of the rotation, or of the T count, for one input are equal. Assumes nothing.
-use Rattle.std.specs.Prelude.{◌≡◌, ℕ, ℤ}
-use Rattle.std.proofs.Common.{sym, ◌∙◌}
+-- Two outcomes of the rotation, or of the T count, for one input are equal, and so are the results that they are read from. Assumes nothing.
+use Rattle.std.specs.Prelude.{◌≡◌, refl, ℕ, ℤ, Result, Ok}
+use Rattle.std.proofs.Common.{sym, ◌∙◌, ap}
 use Rattle.exact.specs.Meaning.Matrix.{Matrix}
 use Rattle.exact.specs.Meaning.Triple.{entries}
 use Rattle.exact.specs.Meaning.Rotation as Exact
 use Rattle.exact.specs.Meaning.Refusals.{checks}
+use Rattle.exact.specs.declared.Refusal.{Refusal}
 use Rattle.exact.proofs.Matrices.Same.{Same-refl}
 use Rattle.exact.proofs.Outcomes.Ladder.{Only, one_outcome}
 use Rattle.exact.proofs.Outcomes.Checked.{checks_one}
@@ -13,8 +14,10 @@ use Rattle.exact.proofs.Rotation.Least.{least_once, least_moved}
 use Rattle.ring.specs.Meaning.{quad}
 use Rattle.ring.specs.declared.ZOmega.{ZOmega}
 use Rattle.unitary.specs.Meaning.{given}
+use Rattle.unitary.specs.Results.{result_told}
 use Rattle.rotation.specs.declared.Rotation.{Rotation}
-use Rattle.rotation.specs.Meaning.{rotation_of, refused, AnswersRotation, RotationOutcome, refused_count, AnswersCount, CountOutcome}
+use Rattle.rotation.specs.Meaning.{Answer, rotation_of, refused, as_answer, AnswersRotation, RotationOutcome}
+use Rattle.rotation.specs.Meaning.{Count, refused_count, as_count, AnswersCount, CountOutcome}
 
 -- a machine's rotation is told by the exact one
 rotation_inj : {r s : Rotation} → rotation_of r ≡ rotation_of s → r ≡ s
@@ -65,3 +68,14 @@ pub count_unique : (k : ℤ) (n : ℕ) (z w : ZOmega) → Only (CountOutcome k n
 count_unique k n z w =
     one_outcome refused_count (AnswersCount (entries (given k n z w))) (checks k (quad z) (quad w)) (checks_one k (quad z) (quad w))
     (λ h. one_count (entries (given k n z w)))
+
+-- ---- reading a result by its number loses nothing
+pub rotation_result_unique : (k : ℤ) (n : ℕ) (z w : ZOmega) → Only (λ (r : Result Rotation Refusal). RotationOutcome k n z w (as_answer r))
+rotation_result_unique k n z w =
+    result_told refused (λ (t : Rotation). as_answer (Ok t)) (AnswersRotation (entries (given k n z w))) (λ (a : Answer). a.refusal) (λ m p. refl)
+    (λ a x. x.taken) (λ t. refl) (λ t u e. ap (λ (a : Answer). a.rotation) e) k z w (rotation_unique k n z w)
+
+pub count_result_unique : (k : ℤ) (n : ℕ) (z w : ZOmega) → Only (λ (r : Result ℕ Refusal). CountOutcome k n z w (as_count r))
+count_result_unique k n z w =
+    result_told refused_count (λ (t : ℕ). as_count (Ok t)) (AnswersCount (entries (given k n z w))) (λ (c : Count). c.refusal) (λ m p. refl)
+    (λ c x. x.taken) (λ t. refl) (λ t u e. ap (λ (c : Count). c.tees) e) k z w (count_unique k n z w)

@@ -11,7 +11,7 @@ use root_two::{Root, Vect};
 fn twos(x: i64) -> u8
     ensures { TwosIn x result }
 {
-    if x == 0 { 64 } else { ring::ntz(x) }
+    x.unsigned_abs().trailing_zeros() as u8
 }
 
 impl Rotation {

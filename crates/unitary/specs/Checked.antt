@@ -22,7 +22,7 @@ use Rattle.ring.specs.Meaning.{quad}
 use Rattle.ring.specs.Number.{Small}
 use Rattle.ring.specs.declared.ZOmega.{ZOmega}
 use Rattle.unitary.specs.declared.DOmegaUnitary.{DOmegaUnitary}
-use Rattle.unitary.specs.Meaning.{triple, given, Answers, refused, Reduces, ReduceOutcome, as_checked}
+use Rattle.unitary.specs.Meaning.{triple, given, none, Answers, refused, Reduces, ReduceOutcome, as_checked}
 use Rattle.unitary.specs.Checks.{UnitaryAt, CheckOutcome, below_zero, over_sixty, in_exponents, exponent_cast, exponent_size}
 
 -- ---- the check
@@ -135,11 +135,22 @@ module _ {k : ℤ} {z w : ZOmega} (fits : SFits w64 k) {r : ℕ} (checked : Chec
 
 -- ---- job 1
 module _ (k : ℤ) (n : ℕ) (z w : ZOmega) where
-  pub reduce_refused : (e : Refusal) → CheckOutcome k z w (number e) → ReduceOutcome k n z w (as_checked (Err e))
-  reduce_refused = refusal_given refused (Reduces (entries (given k n z w))) Meaning.none k z w
+  pub reduce_err : (e : Refusal) → CheckOutcome k z w (number e) → ReduceOutcome k n z w (as_checked (Err e))
+  reduce_err = refusal_given refused (Reduces (entries (given k n z w))) Meaning.none k z w
 
-  pub reduce_taken : CheckOutcome k z w Limits.no_refusal → SFits w64 k → (t : DOmegaUnitary)
+  pub reduce_ok : CheckOutcome k z w Limits.no_refusal → SFits w64 k → (t : DOmegaUnitary)
       → Answers (entries (given (held w64 k) n z w)) (triple t) → ReduceOutcome k n z w (as_checked (Ok t))
-  reduce_taken c fits t a =
+  reduce_ok c fits t a =
       passed_on refused (Reduces (entries (given k n z w))) Meaning.none k z w c (as_checked (Ok t))
+      (record { taken = refl; answer = subst (λ (y : ℤ). Answers (entries (given y n z w)) (triple t)) (to_z-of_z fits) a })
+
+-- by a check's number
+module _ (k : ℤ) (n : ℕ) (z w : ZOmega) (fits : SFits w64 k) (r : ℕ) (checked : CheckOutcome (held w64 k) z w r) where
+  pub reduce_refused : (r ≡ 0 → ⊥) → (m : DOmegaUnitary) → m ≡ none → ReduceOutcome k n z w (record { refusal = r; matrix = m })
+  reduce_refused f m e = rw e (refused_as fits checked refused (Reduces (entries (given k n z w))) Meaning.none f)
+
+  pub reduce_taken : r ≡ 0 → (t : DOmegaUnitary) → Answers (entries (given (held w64 k) n z w)) (triple t)
+      → ReduceOutcome k n z w (record { refusal = 0; matrix = t })
+  reduce_taken e t a =
+      taken_as fits checked refused (Reduces (entries (given k n z w))) Meaning.none e (record { refusal = 0; matrix = t })
       (record { taken = refl; answer = subst (λ (y : ℤ). Answers (entries (given y n z w)) (triple t)) (to_z-of_z fits) a })

@@ -37,6 +37,9 @@ both_test t = divides t.z && divides t.w
 pub refutes : {P : Type 0} → (P → ⊥) → Decides P false
 refutes f = record { yes = λ e. absurd (false_true e); no = λ e. f }
 
+pub refutes_equal : {P : Type 0} (x y : ℕ) → (x ≡ y → ⊥) → (P → ⊥) → Decides P (eqb x y)
+refutes_equal x y n f = record { yes = λ e. absurd (n (eqb-true x y e)); no = λ e. f }
+
 -- of a number x as the machine reads it back
 module _ {n : ℕ} {b : Bool} (x : ℤ) (f : mag x < 2 ^ 63) (d : Decides (nat_abs (held w64 x) ≤ n) b) where
   pub met : not b ≡ false → nat_abs x ≤ n

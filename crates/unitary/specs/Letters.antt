@@ -1,5 +1,6 @@
 -- Which bytes are letters, and the first that is none. Assumes nothing.
-use Rattle.std.specs.Prelude.{◌≡◌, Bool, true, false, not, List, ℕ, ◌+◌, ◌≤◌, ◌<◌, eqb, length, get_or}
+use Rattle.std.specs.Prelude.{◌≡◌, refl, Bool, true, false, not, List, ℕ, ◌+◌, ◌≤◌, ◌<◌, eqb, length, get_or, Option, Some, None, MatchOption}
+use Rattle.std.specs.List.{AllWithin, HoldsAt}
 use Rattle.std.proofs.Common.{sym, arith, eqb-true}
 use Rattle.std.proofs.lemmas.Bool.{eqb-false, not-true, not-false}
 use Rattle.exact.specs.Meaning.Word.{Letter, I, H, S, X, W, T', byte, IsLetter, FirstOutside}
@@ -31,9 +32,32 @@ scanned_first s h = record { there = h; outside = s.outside h; before = s.before
 pub scanned_all : {bs : List ℕ} {r : ℕ} → Scanned bs r → length bs ≤ r → Inside bs (length bs)
 scanned_all s h i l = s.before i (omega arith)
 
+pub scanned_at : (bs : List ℕ) (p : ℕ) → FirstOutside bs p → Scanned bs p
+scanned_at bs p f = record { most = omega (arith, f.there); before = f.before; outside = λ h. f.outside }
+
+pub scanned_whole : (bs : List ℕ) (r : Option ℕ) → MatchOption r (Inside bs (length bs)) (FirstOutside bs) → ((p : ℕ) → r ≡ Some p → ⊥)
+    → Scanned bs (length bs)
+scanned_whole bs None i n = record { most = omega arith; before = i; outside = λ h. absurd (omega arith) }
+scanned_whole bs (Some p) f n = absurd (n p refl)
+
+-- what a search through the list says
+pub outside_of : (bs : List ℕ) (r : Option ℕ)
+    → MatchOption r (AllWithin IsLetter bs 0 (length bs)) (λ i. (i < length bs) × HoldsAt (λ b. IsLetter b → ⊥) bs i × AllWithin IsLetter bs 0 i)
+    → MatchOption r (Inside bs (length bs)) (FirstOutside bs)
+outside_of bs None h = λ i l. h i 0 (omega arith) l
+outside_of bs (Some p) h = record { there = h.0; outside = h.1 0; before = λ i l. h.2 i 0 (omega arith) l }
+
 -- ---- a letter
 pub letter_yes : (l : Letter) (g : ℕ) → g ≡ byte l → Decides (IsLetter g) true
 letter_yes l g e = record { yes = λ p. record { letter_there = l; is = sym e }; no = λ p. absurd (false_true (sym p)) }
+
+-- one of two that stand side by side
+pub letter_of_two : (l m : Letter) (g : ℕ) → byte m ≡ byte l + 1 → byte l ≤ g → g ≤ byte m → Decides (IsLetter g) true
+letter_of_two l m g e a b = go (eqb g (byte l)) refl
+  where
+    go : (t : Bool) → eqb g (byte l) ≡ t → Decides (IsLetter g) true
+    go true p = letter_yes l g (eqb-true g (byte l) p)
+    go false p = letter_yes m g (omega (arith, eqb-false g (byte l) p))
 
 pub letter_last : (g : ℕ) → (g ≡ 73 → ⊥) → (g ≡ 72 → ⊥) → (g ≡ 83 → ⊥) → (g ≡ 88 → ⊥) → (g ≡ 87 → ⊥) → Decides (IsLetter g) (eqb g 84)
 letter_last g i h s x w =

@@ -8,5 +8,6 @@ pub mod Reducing
 pub mod Letters
 pub mod Reading
 pub mod Unique
+pub mod Results
 pub mod Useless
 pub mod Skipped

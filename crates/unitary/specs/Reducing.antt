@@ -1,7 +1,7 @@
 -- Reducing a triple: the twos that z and w share are taken off at once, by the trailing zeros of an `or`; then root two is at most once. Assumes
 -- nothing.
-use Rattle.std.specs.Prelude.{◌≡◌, refl, Bool, true, false, not, ◌&&◌, ℕ, zero, suc, ◌+◌, ◌/◌, ◌%◌, ◌^◌, ◌≤◌, ◌<◌, T, ℤ, nat_abs}
-use Rattle.std.proofs.Common.{sym, ◌∙◌, ap, arith, SFits, of_z, to_z}
+use Rattle.std.specs.Prelude.{◌≡◌, refl, Bool, true, false, not, ◌&&◌, ℕ, zero, suc, ◌+◌, ◌/◌, ◌%◌, ◌^◌, ◌≤◌, ◌<◌, T, leb, min, ℤ, nat_abs}
+use Rattle.std.proofs.Common.{sym, ◌∙◌, ap, subst, arith, leb-true, leb-false, SFits, of_z, to_z}
 use Rattle.std.proofs.Math.Nat.{zero-mod}
 use Rattle.std.proofs.lemmas.Bool.{not-true, not-false}
 use Rattle.std.specs.Int.Bits.{bit_or}
@@ -81,6 +81,20 @@ module _ (t : Triple) (small : t.k ≤ 61) (a b : ℤ) (f : SFits w64 a) (g : SF
               (or_all a b f g (suc m) (omega (arith, zeros.few)) (z-shares.all (suc m) (omega (arith, zeros.few)) p)
               (w-shares.all (suc m) (omega (arith, zeros.few)) q));
         }
+
+    -- the lesser of the two
+    pub least_shared : (bits_of ≡ 0 → ⊥) → (r : ℕ) → r ≡ min m (t.k / 2) → Twos t r
+    least_shared some r e = go (leb m (t.k / 2)) refl
+      where
+        go : (b : Bool) → leb m (t.k / 2) ≡ b → Twos t r
+        go true p =
+            let l : m ≤ t.k / 2 = leb-true m (t.k / 2) p in
+            let is : m ≡ r = omega arith in
+            subst (Twos t) is (all_shared l some)
+        go false p =
+            let l : t.k / 2 < m = leb-false m (t.k / 2) p in
+            let is : t.k / 2 ≡ r = omega arith in
+            subst (Twos t) is (at_most l)
 
 -- ---- taking them off: t with n from 0 to 7, and u without the twos
 module _ (m : ℕ) (t u : DOmegaUnitary) (d : Divided (m + m) (triple t) (triple u)) where

@@ -1,10 +1,14 @@
--- Two outcomes that meet the promise of job 1, or of job 2, for one input are equal. Assumes nothing.
-use Rattle.std.specs.Prelude.{◌≡◌, refl, List, ℕ, ℤ}
-use Rattle.std.proofs.Common.{sym, ◌∙◌}
+-- Two outcomes that meet the promise of job 1, or of job 2, for one input are equal, and so are the results that they are read from. Assumes nothing.
+use Rattle.std.specs.Prelude.{◌≡◌, refl, List, ℕ, ℤ, Result, Ok, Err}
+use Rattle.std.proofs.Common.{sym, ◌∙◌, ap}
 use Rattle.exact.specs.Meaning.Matrix.{Matrix, Same}
 use Rattle.exact.specs.Meaning.Word.{Letter, word, Spelled}
 use Rattle.exact.specs.Meaning.Triple.{Triple, entries, Unitary}
-use Rattle.exact.specs.Meaning.Outcome.{none, ◌then◌}
+use Rattle.exact.specs.Meaning.Outcome.{Refusals, none, ◌then◌, Rung, Outcome}
+use Rattle.exact.specs.Meaning.Handed.{number, place, checked}
+use Rattle.exact.specs.declared.Refusal.{Refusal}
+use Rattle.exact.specs.Outcomes.Ladder.{Checks}
+use Rattle.exact.proofs.Outcomes.Handed.{one_refusal, number_some, check_place, one_result}
 use Rattle.exact.specs.Meaning.Refusals.{long, letter, deep, checks}
 use Rattle.exact.proofs.Matrices.Same.{Same-sym, Same-trans, Same-of}
 use Rattle.exact.proofs.Matrices.Least.{answer_unique}
@@ -15,7 +19,9 @@ use Rattle.exact.proofs.Outcomes.Checked.{checks_taken, checks_one}
 use Rattle.ring.specs.Meaning.{quad}
 use Rattle.ring.specs.declared.ZOmega.{ZOmega}
 use Rattle.unitary.specs.declared.DOmegaUnitary.{DOmegaUnitary}
-use Rattle.unitary.specs.Meaning.{triple, given, Answers, refused, Reduces, ReduceOutcome, stopped, Multiplies, MatrixOutcome}
+use Rattle.unitary.specs.Meaning.{triple, given, Answers, Checked, refused, as_checked, Reduces, ReduceOutcome}
+use Rattle.unitary.specs.Meaning.{FromGates, stopped, as_from_gates, Multiplies, MatrixOutcome}
+use Rattle.unitary.specs.Checks.{CheckOutcome}
 use Rattle.unitary.specs.Triples.{triple_inj}
 
 -- the answers for a unitary matrix
@@ -47,3 +53,51 @@ pub matrix_unique : (w : List ℕ) → Only (MatrixOutcome w)
 matrix_unique w =
     one_outcome stopped (Spelled Multiplies w) (long w then letter w then deep w then none) (one_plain, (one_letter, (one_deep, tt)))
     (λ h. one_spelled Multiplies one_matrix w)
+
+-- ---- reading a result by its number and place loses nothing
+module _ (k : ℤ) (z w : ZOmega) where
+  number_once : Only (CheckOutcome k z w)
+  number_once = one_outcome (λ n p. n) (λ r. r ≡ 0) (checks k (quad z) (quad w)) (checks_one k (quad z) (quad w)) (λ h r s e f. e ∙ sym f)
+
+  nowhere : (e : Refusal) → CheckOutcome k z w (number e) → place e ≡ 0
+  nowhere e c = check_place k (quad z) (quad w) {A = Unit {0}} (Err e) c e refl
+
+  one_error : (e f : Refusal) → CheckOutcome k z w (number e) → CheckOutcome k z w (number f) → e ≡ f
+  one_error e f c d = one_refusal e f (number_once (number e) (number f) c d) (nowhere e c ∙ sym (nowhere f d))
+
+  pub check_result_unique : Only (λ (r : Result (Unit {0}) Refusal). CheckOutcome k z w (checked r))
+  check_result_unique (Ok a) (Ok b) c d = refl
+  check_result_unique (Ok a) (Err f) c d = absurd (number_some f (number_once (number f) 0 d c))
+  check_result_unique (Err e) (Ok b) c d = absurd (number_some e (number_once (number e) 0 c d))
+  check_result_unique (Err e) (Err f) c d = ap Err (one_error e f c d)
+
+  -- job 1
+  numbered : (m : Matrix) (e : Refusal) (fs : Refusals) → Outcome refused (Reduces m) fs (as_checked (Err e)) → Checks fs (number e)
+  numbered m e none o = o.taken
+  numbered m e (f then fs) (Rung.given p h x) = Rung.given p h (ap (λ (c : Checked). c.refusal) x)
+  numbered m e (f then fs) (Rung.passed n x) = Rung.passed n (numbered m e fs x)
+
+  module _ (n : ℕ) where
+    abbrev Job1 : Result DOmegaUnitary Refusal → Type 0
+    Job1 r = ReduceOutcome k n z w (as_checked r)
+
+    same_number : (r s : Result DOmegaUnitary Refusal) → Job1 r → Job1 s → (as_checked r).refusal ≡ (as_checked s).refusal
+    same_number r s o p = ap (λ (c : Checked). c.refusal) (reduce_unique k n z w (as_checked r) (as_checked s) o p)
+
+    pub reduce_result_unique : Only Job1
+    reduce_result_unique (Ok a) (Ok b) o p =
+        ap (λ (c : Checked). Ok c.matrix) (reduce_unique k n z w (as_checked (Ok a)) (as_checked (Ok b)) o p)
+    reduce_result_unique (Ok a) (Err f) o p = absurd (number_some f (sym (same_number (Ok a) (Err f) o p)))
+    reduce_result_unique (Err e) (Ok b) o p = absurd (number_some e (same_number (Err e) (Ok b) o p))
+    reduce_result_unique (Err e) (Err f) o p =
+        let m = entries (given k n z w) in
+        ap Err (one_error e f (numbered m e (checks k (quad z) (quad w)) o) (numbered m f (checks k (quad z) (quad w)) p))
+
+-- job 2
+pub from_gates_told : (r s : Result DOmegaUnitary Refusal) → as_from_gates r ≡ as_from_gates s → r ≡ s
+from_gates_told =
+    one_result stopped (λ (t : DOmegaUnitary). as_from_gates (Ok t)) (λ (r : FromGates). r.refusal) (λ (r : FromGates). r.place) (λ n p. refl)
+    (λ n p. refl) (λ a. refl) (λ a b e. ap (λ (r : FromGates). r.matrix) e)
+
+pub matrix_result_unique : (w : List ℕ) → Only (λ (r : Result DOmegaUnitary Refusal). MatrixOutcome w (as_from_gates r))
+matrix_result_unique w r s o p = from_gates_told r s (matrix_unique w (as_from_gates r) (as_from_gates s) o p)

@@ -1,14 +1,14 @@
 // Triples (z, w, n) over root two to the k in 64 bits, after src/unitary.rs: job 1, reduce and check; job 2, word to matrix.
 #![tactic(auto)]
 
-ghost use Rattle.std.specs.Prelude.{◌≡◌, ◌+◌, ◌^◌, ◌≤◌, ◌<◌, T, pos, nat_abs};
+ghost use Rattle.std.specs.Prelude.{◌≡◌, ◌+◌, ◌^◌, ◌≤◌, ◌<◌, T, pos, nat_abs, length, MatchOption};
 ghost use Rattle.exact.specs.Meaning.Limits.{largest, deepest};
 ghost use Rattle.exact.specs.Meaning.Number.{Sized};
 ghost use Rattle.exact.specs.Meaning.Word as Word;
-ghost use Rattle.exact.specs.Meaning.Word.{IsLetter};
+ghost use Rattle.exact.specs.Meaning.Word.{IsLetter, FirstOutside};
 ghost use Rattle.exact.specs.Meaning.Triple.{entries};
 ghost use Rattle.exact.specs.Meaning.Refusals.{InCoefficients};
-ghost use Rattle.exact.specs.Cases.Letters.{letter_of};
+ghost use Rattle.exact.specs.Cases.Letters.{letter_of, Inside};
 ghost use Rattle.exact.specs.Algebra.Twos.{Multiple};
 ghost use Rattle.exact.specs.Matrices.Divided.{Divided};
 ghost use Rattle.exact.specs.Matrices.Least.{mod_eight};
@@ -19,7 +19,6 @@ ghost use Rattle.unitary.specs.Meaning.{triple, Answers, ReduceOutcome, as_check
 ghost use Rattle.exact.specs.Meaning.Outcome.{Decides};
 ghost use Rattle.exact.specs.Meaning.Handed.{checked};
 ghost use Rattle.unitary.specs.Checks.{UnitaryAt, CheckOutcome, both_test};
-ghost use Rattle.unitary.specs.Letters.{Scanned};
 ghost use Rattle.unitary.specs.Acts.{Good, Acted, turned_back};
 ghost use Rattle.unitary.specs.Reducing.{Twos, OnceMore};
 
@@ -40,29 +39,13 @@ pub struct DOmegaUnitary {
 fn within_limit(x: i64) -> bool
     ensures { Decides (nat_abs x ≤ largest) result }
 {
-    if x < -exact::LARGEST {
-        return false;
-    }
-    x <= exact::LARGEST
+    x.unsigned_abs() <= exact::LARGEST as u64
 }
 
 fn within_limits(x: ZOmega) -> bool
     ensures { Decides (Sized largest (quad x)) result }
 {
-    let a = x.a;
-    let b = x.b;
-    let c = x.c;
-    let d = x.d;
-    if !within_limit(a) {
-        return false;
-    }
-    if !within_limit(b) {
-        return false;
-    }
-    if !within_limit(c) {
-        return false;
-    }
-    within_limit(d)
+    within_limit(x.a) && within_limit(x.b) && within_limit(x.c) && within_limit(x.d)
 }
 
 fn power_of_two(k: u8) -> i64
@@ -78,32 +61,17 @@ fn is_unitary(k: u8, z: ZOmega, w: ZOmega) -> bool
     requires fact_2 { InCoefficients (quad z) (quad w) }
     ensures { Decides (UnitaryAt k z w) result }
 {
-    let size = power_of_two(k);
-    let z_squares = z.squares();
-    let w_squares = w.squares();
-    if z_squares != size - w_squares {
-        return false;
-    }
-    let z_crosses = z.crosses();
-    let w_crosses = w.crosses();
-    let wanted = 0 - w_crosses;
-    z_crosses == wanted
+    z.squares() == power_of_two(k) - w.squares() && z.crosses() == -w.crosses()
 }
 
 // Refusals 3, 4 and 5 in that order.
 pub fn check(t: Triple) -> Result<(), Refusal>
     ensures { CheckOutcome t.k t.z t.w (checked result) }
 {
-    if t.k < 0 {
+    if t.k < 0 || t.k > exact::DEEPEST {
         return Err(Refusal::Exponent);
     }
-    if t.k > exact::DEEPEST {
-        return Err(Refusal::Exponent);
-    }
-    if !within_limits(t.z) {
-        return Err(Refusal::Coefficient);
-    }
-    if !within_limits(t.w) {
+    if !within_limits(t.z) || !within_limits(t.w) {
         return Err(Refusal::Coefficient);
     }
     if !is_unitary(t.k as u8, t.z, t.w) {
@@ -128,21 +96,9 @@ impl DOmegaUnitary {
     pub fn identity() -> DOmegaUnitary
         ensures { triple result ≡ identity }
     {
-        let z = ZOmega {
-            a: 0,
-            b: 0,
-            c: 0,
-            d: 1,
-        };
-        let w = ZOmega {
-            a: 0,
-            b: 0,
-            c: 0,
-            d: 0,
-        };
         DOmegaUnitary {
-            z: z,
-            w: w,
+            z: ZOmega::ONE,
+            w: ZOmega::ZERO,
             n: 0,
             k: 0,
         }
@@ -154,9 +110,7 @@ impl DOmegaUnitary {
         requires fact_2 { Small self.w }
         ensures { result ≡ both_test (triple self) }
     {
-        let z = self.z;
-        let w = self.w;
-        z.divisible() && w.divisible()
+        self.z.divisible() && self.w.divisible()
     }
 
     // The exponent one lower, z and w divided by root two.
@@ -167,17 +121,11 @@ impl DOmegaUnitary {
         requires fact_4 { T (both_test (triple self)) }
         ensures { Divided 1 (triple self) (triple result) }
     {
-        let z = self.z;
-        let w = self.w;
-        let n = self.n;
-        let k = self.k;
-        let new_z = z.mul_by_inv_sqrt2();
-        let new_w = w.mul_by_inv_sqrt2();
         DOmegaUnitary {
-            z: new_z,
-            w: new_w,
-            n: n,
-            k: k - 1,
+            z: self.z.mul_by_inv_sqrt2(),
+            w: self.w.mul_by_inv_sqrt2(),
+            k: self.k - 1,
+            ..self
         }
     }
 
@@ -186,17 +134,11 @@ impl DOmegaUnitary {
         requires { (Small self.z) × ((Small self.w) × (((m < 64) × (m + m ≤ self.k)) × ((Multiple m (quad self.z)) × (Multiple m (quad self.w))))) }
         ensures { Divided (m + m) (triple self) (triple result) }
     {
-        let z = self.z;
-        let w = self.w;
-        let n = self.n;
-        let k = self.k;
-        let new_z = z.halved(m);
-        let new_w = w.halved(m);
         DOmegaUnitary {
-            z: new_z,
-            w: new_w,
-            n: n,
-            k: k - m - m,
+            z: self.z.halved(m),
+            w: self.w.halved(m),
+            k: self.k - m - m,
+            ..self
         }
     }
 
@@ -205,18 +147,12 @@ impl DOmegaUnitary {
         requires { self.k ≤ 61 }
         ensures { Twos (triple self) result }
     {
-        let z = self.z;
-        let w = self.w;
-        let k = self.k;
-        let most = k / 2;
-        let z_common = z.common();
-        let w_common = w.common();
-        let common = z_common | w_common;
+        let most = self.k / 2;
+        let common = self.z.common() | self.w.common();
         if common == 0 {
             return most;
         }
-        let m = ring::ntz(common);
-        if m > most { most } else { m }
+        ring::ntz(common).min(most)
     }
 
     // Divided by root two once more, where that is allowed.
@@ -225,13 +161,11 @@ impl DOmegaUnitary {
         requires fact_2 { Small self.w }
         ensures { OnceMore (triple self) (triple result) }
     {
-        if self.k == 0 {
-            return self;
+        if self.k > 0 && self.divisible() {
+            self.lowered()
+        } else {
+            self
         }
-        if self.divisible() {
-            return self.lowered();
-        }
-        self
     }
 
     // The reduced triple of the same matrix, n from 0 to 7: the twos that z and w share at once, then root two at most once.
@@ -242,28 +176,18 @@ impl DOmegaUnitary {
         requires fact_3 { self.k ≤ 61 }
         ensures { Answers (entries (triple self)) (triple result) }
     {
-        let z = self.z;
-        let w = self.w;
-        let n = self.n;
-        let k = self.k;
         let t = DOmegaUnitary {
-            z: z,
-            w: w,
-            n: n % 8,
-            k: k,
+            n: self.n % 8,
+            ..self
         };
-        if t.k == 0 {
-            return t;
-        }
-        if !t.divisible() {
+        if t.k == 0 || !t.divisible() {
             return t;
         }
         let m = t.twos();
         if m == 0 {
             return t.lowered();
         }
-        let u = t.halved(m);
-        u.lowered_if()
+        t.halved(m).lowered_if()
     }
 
     fn mul_by_t_from_left(self) -> DOmegaUnitary
@@ -271,16 +195,11 @@ impl DOmegaUnitary {
         requires fact_2 { self.n < 8 }
         ensures { triple result ≡ mod_eight (act Word.T' (triple self)) }
     {
-        let z = self.z;
-        let w = self.w;
-        let n = self.n;
-        let k = self.k;
-        let turned_w = w.mul_by_omega();
+        let w = self.w.mul_by_omega();
         DOmegaUnitary {
-            z: z,
-            w: turned_w,
-            n: (n + 1) % 8,
-            k: k,
+            w,
+            n: (self.n + 1) % 8,
+            ..self
         }
     }
 
@@ -291,16 +210,10 @@ impl DOmegaUnitary {
         requires fact_3 { m < 4 }
         ensures { triple result ≡ mod_eight (turned_back m (triple self)) }
     {
-        let z = self.z;
-        let w = self.w;
-        let n = self.n;
-        let k = self.k;
-        let new_w = w.mul_by_omega_inv_power(m);
         DOmegaUnitary {
-            z: z,
-            w: new_w,
-            n: (n + (8 - m)) % 8,
-            k: k,
+            w: self.w.mul_by_omega_inv_power(m),
+            n: (self.n + (8 - m)) % 8,
+            ..self
         }
     }
 
@@ -316,17 +229,10 @@ impl DOmegaUnitary {
         requires fact_2 { self.n < 8 }
         ensures { triple result ≡ mod_eight (act Word.S (triple self)) }
     {
-        let z = self.z;
-        let w = self.w;
-        let n = self.n;
-        let k = self.k;
-        let half_w = w.mul_by_omega();
-        let new_w = half_w.mul_by_omega();
         DOmegaUnitary {
-            z: z,
-            w: new_w,
-            n: (n + 2) % 8,
-            k: k,
+            w: self.w.mul_by_omega().mul_by_omega(),
+            n: (self.n + 2) % 8,
+            ..self
         }
     }
 
@@ -334,15 +240,11 @@ impl DOmegaUnitary {
         requires { self.n < 8 }
         ensures { triple result ≡ mod_eight (act Word.X (triple self)) }
     {
-        let z = self.z;
-        let w = self.w;
-        let n = self.n;
-        let k = self.k;
         DOmegaUnitary {
-            z: w,
-            w: z,
-            n: (n + 4) % 8,
-            k: k,
+            z: self.w,
+            w: self.z,
+            n: (self.n + 4) % 8,
+            k: self.k,
         }
     }
 
@@ -352,17 +254,11 @@ impl DOmegaUnitary {
         requires fact_3 { self.n < 8 }
         ensures { triple result ≡ mod_eight (act Word.W (triple self)) }
     {
-        let z = self.z;
-        let w = self.w;
-        let n = self.n;
-        let k = self.k;
-        let new_z = z.mul_by_omega();
-        let new_w = w.mul_by_omega();
         DOmegaUnitary {
-            z: new_z,
-            w: new_w,
-            n: (n + 2) % 8,
-            k: k,
+            z: self.z.mul_by_omega(),
+            w: self.w.mul_by_omega(),
+            n: (self.n + 2) % 8,
+            k: self.k,
         }
     }
 
@@ -374,17 +270,11 @@ impl DOmegaUnitary {
         requires fact_4 { self.k < 255 }
         ensures { triple result ≡ mod_eight (act Word.H (triple self)) }
     {
-        let z = self.z;
-        let w = self.w;
-        let n = self.n;
-        let k = self.k;
-        let new_z = z.add(w);
-        let new_w = z.sub(w);
         DOmegaUnitary {
-            z: new_z,
-            w: new_w,
-            n: (n + 4) % 8,
-            k: k + 1,
+            z: self.z.add(self.w),
+            w: self.z.sub(self.w),
+            n: (self.n + 4) % 8,
+            k: self.k + 1,
         }
     }
 }
@@ -408,37 +298,14 @@ pub fn reduce(t: Triple) -> Result<DOmegaUnitary, Refusal>
 fn is_letter(g: u8) -> bool
     ensures { Decides (IsLetter g) result }
 {
-    if g == b'I' {
-        return true;
-    }
-    if g == b'H' {
-        return true;
-    }
-    if g == b'S' {
-        return true;
-    }
-    if g == b'X' {
-        return true;
-    }
-    if g == b'W' {
-        return true;
-    }
-    g == b'T'
+    matches!(g, b'I' | b'H' | b'S' | b'X' | b'W' | b'T')
 }
 
-// The first place whose byte is no letter, or the length.
-fn first_outside(word: &[u8]) -> usize
-    ensures { Scanned word.now result }
+// The first place whose byte is no letter.
+fn first_outside(word: &[u8]) -> Option<usize>
+    ensures { MatchOption result (Inside word.now (length word.now)) (FirstOutside word.now) }
 {
-    let mut i: usize = 0;
-    while i < word.len() {
-        let g = word[i];
-        if !is_letter(g) {
-            return i;
-        }
-        i += 1;
-    }
-    i
+    word.iter().position(|g| !is_letter(*g))
 }
 
 impl DOmegaUnitary {
@@ -448,23 +315,14 @@ impl DOmegaUnitary {
         requires fact_2 { self.k ≤ deepest }
         ensures { Acted (letter_of g) self result }
     {
-        if g == b'H' {
-            let t = self.mul_by_h_from_left();
-            return t.reduce_denomexp();
+        match g {
+            b'H' => self.mul_by_h_from_left().reduce_denomexp(),
+            b'S' => self.mul_by_s_from_left(),
+            b'X' => self.mul_by_x_from_left(),
+            b'W' => self.mul_by_w_from_left(),
+            b'T' => self.mul_by_t_from_left(),
+            _ => self,
         }
-        if g == b'S' {
-            return self.mul_by_s_from_left();
-        }
-        if g == b'X' {
-            return self.mul_by_x_from_left();
-        }
-        if g == b'W' {
-            return self.mul_by_w_from_left();
-        }
-        if g == b'T' {
-            return self.mul_by_t_from_left();
-        }
-        self
     }
 }
 
@@ -475,20 +333,15 @@ pub fn from_gates(word: &[u8]) -> Result<DOmegaUnitary, Refusal>
     if word.len() > exact::LONGEST {
         return Err(Refusal::Long);
     }
-    let bad = first_outside(word);
-    if bad < word.len() {
-        return Err(Refusal::Letter(bad));
+    if let Some(at) = first_outside(word) {
+        return Err(Refusal::Letter(at));
     }
     let mut t = DOmegaUnitary::identity();
-    let mut i = word.len();
-    while i > 0 {
-        let at = i - 1;
-        let g = word[at];
-        t = t.mul_by_letter_from_left(g);
+    for at in (0..word.len()).rev() {
+        t = t.mul_by_letter_from_left(word[at]);
         if t.k > 60 {
             return Err(Refusal::Deep(at));
         }
-        i = at;
     }
     Ok(t)
 }

@@ -1,16 +1,18 @@
--- Two outcomes of job 7 for one input are equal, float by float. Assumes nothing.
-use Rattle.std.specs.Prelude.{◌≡◌, ℕ, ℤ, Float}
-use Rattle.std.proofs.Common.{sym, ◌∙◌}
+-- Two outcomes of job 7 for one input are equal, float by float, and so are the results that they are read from. Assumes nothing.
+use Rattle.std.specs.Prelude.{◌≡◌, refl, ℕ, ℤ, Float, Result, Ok}
+use Rattle.std.proofs.Common.{sym, ◌∙◌, ap}
 use Rattle.exact.specs.Meaning.Triple.{Triple}
 use Rattle.exact.specs.Meaning.Refusals.{checks}
+use Rattle.exact.specs.declared.Refusal.{Refusal}
 use Rattle.exact.proofs.Outcomes.Ladder.{Only, one_outcome}
 use Rattle.exact.proofs.Outcomes.Checked.{checks_one}
 use Rattle.ring.specs.Meaning.{quad}
 use Rattle.ring.specs.declared.ZOmega.{ZOmega}
 use Rattle.unitary.specs.Meaning.{given}
+use Rattle.unitary.specs.Results.{result_told}
 use Rattle.view.specs.Meaning.Surd.{Surd}
 use Rattle.view.specs.Meaning.Near.{Shows}
-use Rattle.view.specs.Meaning.Outcome.{Viewed, refused, Views, ViewOutcome}
+use Rattle.view.specs.Meaning.Outcome.{Answer, Viewed, refused, as_answer, Views, ViewOutcome}
 use Rattle.view.specs.declared.matrix.View.{View}
 
 pub shows_unique : {q : Surd} {r r' : Float} → Shows q r → Shows q r' → r ≡ r'
@@ -32,3 +34,9 @@ view_unique k n z w = one_outcome refused (Views (given k n z w)) (checks k (qua
   where
     one : Only (Views (given k n z w))
     one r s a b = λ i. record { refusal = (a.taken ∙ sym b.taken) i; view = viewed_unique a.viewed b.viewed i }
+
+-- ---- reading a result by its number loses nothing
+pub view_result_unique : (k : ℤ) (n : ℕ) (z w : ZOmega) → Only (λ (r : Result View Refusal). ViewOutcome k n z w (as_answer r))
+view_result_unique k n z w =
+    result_told refused (λ (v : View). as_answer (Ok v)) (Views (given k n z w)) (λ (a : Answer). a.refusal) (λ m p. refl) (λ a x. x.taken) (λ v. refl)
+    (λ v u e. ap (λ (a : Answer). a.view) e) k z w (view_unique k n z w)

@@ -1,44 +1,25 @@
--- `unitary::from_gates` meets its contract. The invariant: the ending from i on has been read, and it and those after it are shallow; the
--- measure is i.
-use native.Mathlib.Omega.{arith}
+-- `unitary::from_gates` meets its contract: the ending from `at` on has been read, and it and those after it are shallow.
+use borrow.Author.Rules.{rules}
+use Rattle.unitary.specs.Letters.{scanned_at, scanned_whole}
 use Rattle.unitary.specs.Reading.{read_start, step_more, refused_long, refused_letter, refused_deep, read_whole}
 use Rattle.unitary.proofs.from_gates.Goals as goal
-
 
 pub returns-then-word-gt-LONGEST : goal.returns-then-word-gt-LONGEST
 returns-then-word-gt-LONGEST c = search refused_long
 
-pub first_outside-bad-requires : goal.first_outside-bad-requires
-first_outside-bad-requires c = tt
+pub returns-in-Some : goal.returns-in-Some
+returns-in-Some c = search (refused_letter, scanned_at, c.in-Some.ensures)
 
-
-pub returns-then-bad-word : goal.returns-then-bad-word
-returns-then-bad-word c = search refused_letter
-
-pub identity-t-requires : goal.identity-t-requires
-identity-t-requires c = tt
-
-pub loop-i-init : goal.loop-i-init
-loop-i-init c = (omega arith, search read_start)
-
-pub overflow_sub-at : goal.overflow_sub-at
-overflow_sub-at c = omega arith
-
-pub bounds-word-at : goal.bounds-word-at
-bounds-word-at c = omega arith
-
-pub mul_by_letter_from_left-t-requires : goal.mul_by_letter_from_left-t-requires
-mul_by_letter_from_left-t-requires c = let r = c.loop-i.invariant.1 in record { fact_1 = r.good; fact_2 = r.few }
-
+pub loop-at-init : goal.loop-at-init
+loop-at-init c = search read_start
 
 pub returns-then-t-gt60 : goal.returns-then-t-gt60
-returns-then-t-gt60 c = search refused_deep
+returns-then-t-gt60 c =
+    let s = scanned_whole c.args.word.now c.first_outside.result c.first_outside.ensures c.in_default.not-Some in search (refused_deep, rules)
 
-pub loop-i-smaller : goal.loop-i-smaller
-loop-i-smaller c = omega arith
-
-pub loop-i-preserved : goal.loop-i-preserved
-loop-i-preserved c = (omega arith, search step_more)
+pub loop-at-preserved : goal.loop-at-preserved
+loop-at-preserved c = search step_more
 
 pub returns : goal.returns
-returns c = search read_whole
+returns c =
+    let s = scanned_whole c.args.word.now c.first_outside.result c.first_outside.ensures c.in_default.not-Some in search (read_whole, rules)

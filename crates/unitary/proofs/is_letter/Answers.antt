@@ -1,23 +1,15 @@
--- `unitary::is_letter` meets its contract: the letters are tried one after the other.
-use Rattle.exact.specs.Meaning.Word.{I, H, S, X, W}
-use Rattle.unitary.specs.Letters.{letter_yes, letter_last}
-use borrow.Author.Rules.{rules}
+-- `unitary::is_letter` meets its contract: of the six bytes, two and two stand side by side.
+use mathlib.Core.Path.{refl}
+use native.Mathlib.Omega.{arith}
+use Rattle.exact.specs.Meaning.Word.{I, H, S, X, W, T'}
+use Rattle.unitary.specs.Letters.{letter_of_two}
 use Rattle.unitary.proofs.is_letter.Goals as goal
 
-pub returns-then-g-eq73 : goal.returns-then-g-eq73
-returns-then-g-eq73 c = letter_yes I _ (search rules)
+pub returns-in-73 : goal.returns-in-73
+returns-in-73 c = letter_of_two H I c.args.g refl (omega arith) (omega arith)
 
-pub returns-then-g-eq72 : goal.returns-then-g-eq72
-returns-then-g-eq72 c = letter_yes H _ (search rules)
+pub returns-in-73-2 : goal.returns-in-73-2
+returns-in-73-2 c = letter_of_two S T' c.args.g refl (omega arith) (omega arith)
 
-pub returns-then-g-eq83 : goal.returns-then-g-eq83
-returns-then-g-eq83 c = letter_yes S _ (search rules)
-
-pub returns-then-g-eq88 : goal.returns-then-g-eq88
-returns-then-g-eq88 c = letter_yes X _ (search rules)
-
-pub returns-then-g-eq87 : goal.returns-then-g-eq87
-returns-then-g-eq87 c = letter_yes W _ (search rules)
-
-pub returns : goal.returns
-returns c = search letter_last
+pub returns-in-73-3 : goal.returns-in-73-3
+returns-in-73-3 c = letter_of_two W X c.args.g refl (omega arith) (omega arith)

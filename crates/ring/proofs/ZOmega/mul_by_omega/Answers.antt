@@ -6,12 +6,9 @@ use borrow.Author.Rules.{rules}
 use Rattle.exact.proofs.Algebra.Omega.{quad_path}
 use Rattle.exact.proofs.Whole.Machine.{arg, lit, ◌∸◌}
 use Rattle.ring.specs.Meaning.{quad}
-use Rattle.ring.specs.Number.{turned, opposite_fits}
+use Rattle.ring.specs.Number.{turned}
 use Rattle.ring.specs.Code.{is₁}
 use Rattle.ring.proofs.ZOmega.mul_by_omega.Goals as goal
-
-pub overflow_sub-result : goal.overflow_sub-result
-overflow_sub-result c = search opposite_fits
 
 pub returns : goal.returns
 returns c =

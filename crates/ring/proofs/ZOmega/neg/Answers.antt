@@ -6,21 +6,9 @@ use borrow.Author.Rules.{rules}
 use Rattle.exact.proofs.Algebra.Omega.{quad_path}
 use Rattle.exact.proofs.Whole.Machine.{arg, lit, ◌∸◌}
 use Rattle.ring.specs.Meaning.{quad}
-use Rattle.ring.specs.Number.{negated, opposite_fits}
+use Rattle.ring.specs.Number.{negated}
 use Rattle.ring.specs.Code.{is₁}
 use Rattle.ring.proofs.ZOmega.neg.Goals as goal
-
-pub overflow_sub-result : goal.overflow_sub-result
-overflow_sub-result c = search opposite_fits
-
-pub overflow_sub-result-2 : goal.overflow_sub-result-2
-overflow_sub-result-2 c = search opposite_fits
-
-pub overflow_sub-result-3 : goal.overflow_sub-result-3
-overflow_sub-result-3 c = search opposite_fits
-
-pub overflow_sub-result-4 : goal.overflow_sub-result-4
-overflow_sub-result-4 c = search opposite_fits
 
 pub returns : goal.returns
 returns c =

@@ -2,20 +2,8 @@
 use Prim.Native.Nat.{◌^◌}
 use Rattle.exact.proofs.Algebra.Omega.{quad_path}
 use Rattle.exact.proofs.Whole.Machine.{arg, ◌∸◌}
-use Rattle.ring.specs.Code.{fits₂, is₂}
+use Rattle.ring.specs.Code.{is₂}
 use Rattle.ring.proofs.ZOmega.sub.Goals as goal
-
-pub overflow_sub-result : goal.overflow_sub-result
-overflow_sub-result c = search (fits₂ (2 ^ 31) (arg 0 ∸ arg 4) tt)
-
-pub overflow_sub-result-2 : goal.overflow_sub-result-2
-overflow_sub-result-2 c = search (fits₂ (2 ^ 31) (arg 1 ∸ arg 5) tt)
-
-pub overflow_sub-result-3 : goal.overflow_sub-result-3
-overflow_sub-result-3 c = search (fits₂ (2 ^ 31) (arg 2 ∸ arg 6) tt)
-
-pub overflow_sub-result-4 : goal.overflow_sub-result-4
-overflow_sub-result-4 c = search (fits₂ (2 ^ 31) (arg 3 ∸ arg 7) tt)
 
 pub returns : goal.returns
 returns c =

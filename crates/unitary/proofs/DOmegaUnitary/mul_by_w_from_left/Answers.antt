@@ -1,7 +1,0 @@
--- `unitary::DOmegaUnitary::mul_by_w_from_left` meets its contract: each part is what the letter makes of it.
-use mathlib.Core.Path.{refl}
-use Rattle.unitary.specs.Triples.{by_parts}
-use Rattle.unitary.proofs.DOmegaUnitary.mul_by_w_from_left.Goals as goal
-
-pub returns : goal.returns
-returns c = by_parts refl refl c.mul_by_omega-new_z.ensures c.mul_by_omega-new_w.ensures
