@@ -1,218 +1,188 @@
 // Cases of jobs 3 and 5, on either side of each limit: a line each, compared with stdout.
 #![tactic(auto)]
 
-use normal_form::Written;
-use shown::{number, text};
-use std::io;
-use std::io::Write;
+ghost use Rattle.std.specs.Prelude.{◌≤◌};
 
-fn handed<W: Write>(out: &mut W, label: &[u8], r: Written) -> io::Result<()> {
-    text(out, label)?;
-    text(out, b": refusal=")?;
-    number(out, r.refusal as u64)?;
-    text(out, b" place=")?;
-    number(out, r.place as u64)?;
-    text(out, b" bytes=")?;
-    number(out, r.bytes as u64)?;
-    text(out, b" t=")?;
-    number(out, r.tees as u64)
+use exact::Refusal;
+use normal_form::Counts;
+use shown::text;
+use std::io::Write;
+use std::{array, io};
+
+fn handed<W: Write>(out: &mut W, label: &str, r: Result<Counts, Refusal>) -> io::Result<()> {
+    match r {
+        Ok(counts) => write!(
+            out,
+            "{label}: refusal=0 place=0 bytes={} t={} ",
+            counts.bytes, counts.tees
+        ),
+        Err(e) => write!(
+            out,
+            "{label}: refusal={} place={} bytes=0 t=0 ",
+            e.number(),
+            e.place()
+        ),
+    }
 }
 
 // The whole buffer is shown, so that a byte that should not have been written is seen.
-fn job3_in<W: Write>(out: &mut W, word: &[u8], buf: &mut [u8], room: usize) -> io::Result<()> {
-    if room <= buf.len() {
-        let r = normal_form::normalise(word, &mut buf[0..room]);
-        handed(out, word, r)?;
-        text(out, b" ")?;
-        text(out, buf)?;
-        text(out, b"\n")?;
-    }
-    Ok(())
-}
-
-fn job5_in<W: Write>(out: &mut W, word: &[u8], buf: &mut [u8], room: usize) -> io::Result<()> {
-    if room <= buf.len() {
-        let r = normal_form::phase_free(word, &mut buf[0..room]);
-        handed(out, word, r)?;
-        text(out, b" ")?;
-        text(out, buf)?;
-        text(out, b"\n")?;
-    }
-    Ok(())
-}
-
-fn job3<W: Write>(out: &mut W, word: &[u8], room: usize) -> io::Result<()> {
+fn job3<W: Write>(out: &mut W, word: &str, room: usize) -> io::Result<()>
+    requires { room ≤ 16 }
+{
     let mut buf = [b'.'; 16];
-    job3_in(out, word, &mut buf, room)
+    let r = normal_form::normalise(word.as_bytes(), &mut buf[..room]);
+    handed(out, word, r)?;
+    text(out, &buf)?;
+    writeln!(out)
 }
 
-fn job5<W: Write>(out: &mut W, word: &[u8], room: usize) -> io::Result<()> {
+fn job5<W: Write>(out: &mut W, word: &str, room: usize) -> io::Result<()>
+    requires { room ≤ 16 }
+{
     let mut buf = [b'.'; 16];
-    job5_in(out, word, &mut buf, room)
+    let r = normal_form::phase_free(word.as_bytes(), &mut buf[..room]);
+    handed(out, word, r)?;
+    text(out, &buf)?;
+    writeln!(out)
 }
 
 fn document<W: Write>(out: &mut W) -> io::Result<()> {
-    job3(out, b"", 16)?;
-    job3(out, b"T", 16)?;
-    job3(out, b"TT", 16)?;
-    job3(out, b"TTTT", 16)?;
-    job3(out, b"HH", 16)?;
-    job3(out, b"HTT", 16)?;
-    job3(out, b"SHTT", 16)?;
-    job3(out, b"HSH", 16)?;
-    job3(out, b"XT", 16)?;
-    job3(out, b"WT", 16)?;
-    job3(out, b"HTHT", 16)
+    job3(out, "", 16)?;
+    job3(out, "T", 16)?;
+    job3(out, "TT", 16)?;
+    job3(out, "TTTT", 16)?;
+    job3(out, "HH", 16)?;
+    job3(out, "HTT", 16)?;
+    job3(out, "SHTT", 16)?;
+    job3(out, "HSH", 16)?;
+    job3(out, "XT", 16)?;
+    job3(out, "WT", 16)?;
+    job3(out, "HTHT", 16)
 }
 
 fn phase_free_words<W: Write>(out: &mut W) -> io::Result<()> {
-    job5(out, b"", 1)?;
-    job5(out, b"", 0)?;
-    job5(out, b"T", 16)?;
-    job5(out, b"T", 2)?;
-    job5(out, b"T", 1)?;
-    job5(out, b"TW", 16)?;
-    job5(out, b"TW", 2)?;
-    job5(out, b"TW", 1)?;
-    job5(out, b"WT", 2)?;
-    job5(out, b"WT", 1)?;
-    job5(out, b"W", 16)?;
-    job5(out, b"W", 1)?;
-    job5(out, b"W", 0)?;
-    job5(out, b"HW", 1)?;
-    job5(out, b"HW", 0)?;
-    job5(out, b"XSW", 2)?;
-    job5(out, b"XSW", 1)?;
-    job5(out, b"HSH", 16)?;
-    job5(out, b"XT", 3)?;
-    job5(out, b"XT", 2)?;
-    job5(out, b"WWWWWWWW", 1)?;
-    job5(out, b"WWWWWWWW", 0)
+    job5(out, "", 1)?;
+    job5(out, "", 0)?;
+    job5(out, "T", 16)?;
+    job5(out, "T", 2)?;
+    job5(out, "T", 1)?;
+    job5(out, "TW", 16)?;
+    job5(out, "TW", 2)?;
+    job5(out, "TW", 1)?;
+    job5(out, "WT", 2)?;
+    job5(out, "WT", 1)?;
+    job5(out, "W", 16)?;
+    job5(out, "W", 1)?;
+    job5(out, "W", 0)?;
+    job5(out, "HW", 1)?;
+    job5(out, "HW", 0)?;
+    job5(out, "XSW", 2)?;
+    job5(out, "XSW", 1)?;
+    job5(out, "HSH", 16)?;
+    job5(out, "XT", 3)?;
+    job5(out, "XT", 2)?;
+    job5(out, "WWWWWWWW", 1)?;
+    job5(out, "WWWWWWWW", 0)
 }
 
 fn identities<W: Write>(out: &mut W) -> io::Result<()> {
-    job3(out, b"I", 16)?;
-    job3(out, b"I", 1)?;
-    job3(out, b"I", 0)?;
-    job3(out, b"II", 16)?;
-    job3(out, b"IT", 16)?;
-    job3(out, b"ITI", 16)?;
-    job3(out, b"HIH", 16)?;
-    job3(out, b"SHTIT", 16)?;
-    job3(out, b"HTI", 16)?;
-    job3(out, b"HTIHT", 16)?;
-    job3(out, b"IXTHS", 16)?;
-    job3(out, b"XITHS", 16)?;
-    job3(out, b"XTIHS", 16)?;
-    job3(out, b"XTHIS", 16)?;
-    job3(out, b"XTHSI", 16)?;
-    job5(out, b"I", 16)?;
-    job5(out, b"I", 0)?;
-    job5(out, b"TIW", 16)?;
-    job5(out, b"WI", 16)?;
-    job5(out, b"XIT", 3)?;
-    job5(out, b"XIT", 2)
+    job3(out, "I", 16)?;
+    job3(out, "I", 1)?;
+    job3(out, "I", 0)?;
+    job3(out, "II", 16)?;
+    job3(out, "IT", 16)?;
+    job3(out, "ITI", 16)?;
+    job3(out, "HIH", 16)?;
+    job3(out, "SHTIT", 16)?;
+    job3(out, "HTI", 16)?;
+    job3(out, "HTIHT", 16)?;
+    job3(out, "IXTHS", 16)?;
+    job3(out, "XITHS", 16)?;
+    job3(out, "XTIHS", 16)?;
+    job3(out, "XTHIS", 16)?;
+    job3(out, "XTHSI", 16)?;
+    job5(out, "I", 16)?;
+    job5(out, "I", 0)?;
+    job5(out, "TIW", 16)?;
+    job5(out, "WI", 16)?;
+    job5(out, "XIT", 3)?;
+    job5(out, "XIT", 2)
 }
 
 // Normal words, which are given back as they are, and so are the words of job 5, which have no W.
 fn given_back<W: Write>(out: &mut W) -> io::Result<()> {
-    job3(out, b"TI", 2)?;
-    job3(out, b"TI", 1)?;
-    job3(out, b"TXSWWWWWWW", 10)?;
-    job3(out, b"TXSWWWWWWW", 9)?;
-    job3(out, b"THTSHTI", 7)?;
-    job3(out, b"SHTSHXSSSW", 10)?;
-    job5(out, b"SHTSHXSSSW", 9)?;
-    job3(out, b"SHTSHXSSS", 9)?;
-    job5(out, b"SHTSHXSSS", 9)?;
-    job5(out, b"TI", 2)?;
-    job5(out, b"TI", 1)
+    job3(out, "TI", 2)?;
+    job3(out, "TI", 1)?;
+    job3(out, "TXSWWWWWWW", 10)?;
+    job3(out, "TXSWWWWWWW", 9)?;
+    job3(out, "THTSHTI", 7)?;
+    job3(out, "SHTSHXSSSW", 10)?;
+    job5(out, "SHTSHXSSSW", 9)?;
+    job3(out, "SHTSHXSSS", 9)?;
+    job5(out, "SHTSHXSSS", 9)?;
+    job5(out, "TI", 2)?;
+    job5(out, "TI", 1)
 }
 
 fn places<W: Write>(out: &mut W) -> io::Result<()> {
-    job3(out, b"hHT", 16)?;
-    job3(out, b"i", 16)?;
-    job3(out, b"iI", 16)?;
-    job3(out, b"Ii", 16)?;
-    job3(out, b"HTxyz", 0)?;
-    job3(out, b"HT?IHT", 16)?;
-    job3(out, b"HTI?HT", 16)?;
-    job5(out, b"HTI?HT", 0)
+    job3(out, "hHT", 16)?;
+    job3(out, "i", 16)?;
+    job3(out, "iI", 16)?;
+    job3(out, "Ii", 16)?;
+    job3(out, "HTxyz", 0)?;
+    job3(out, "HT?IHT", 16)?;
+    job3(out, "HTI?HT", 16)?;
+    job5(out, "HTI?HT", 0)
 }
 
 fn rooms<W: Write>(out: &mut W) -> io::Result<()> {
-    job3(out, b"T", 2)?;
-    job3(out, b"T", 1)?;
-    job3(out, b"XT", 11)?;
-    job3(out, b"XT", 10)?;
-    job3(out, b"XT", 9)?;
-    job3(out, b"XT", 0)?;
-    job3(out, b"", 0)?;
-    job3(out, b"", 1)
+    job3(out, "T", 2)?;
+    job3(out, "T", 1)?;
+    job3(out, "XT", 11)?;
+    job3(out, "XT", 10)?;
+    job3(out, "XT", 9)?;
+    job3(out, "XT", 0)?;
+    job3(out, "", 0)?;
+    job3(out, "", 1)
 }
 
-// A byte that is a word by itself.
-fn alone<W: Write>(out: &mut W, b: u8) -> io::Result<()> {
-    let word = [b];
-    let mut buf = [b'.'; 16];
-    let r = normal_form::normalise(&word, &mut buf);
-    if r.refusal == 0 {
-        text(out, b" ")?;
-        number(out, b as u64)?;
-    }
-    Ok(())
-}
-
-fn all_bytes<W: Write>(out: &mut W) -> io::Result<()> {
-    let mut b: u8 = 0;
-    while b < 255 {
-        alone(out, b)?;
-        b += 1;
-    }
-    alone(out, b)
-}
-
+// The bytes that are a word by themselves.
 fn alphabet<W: Write>(out: &mut W) -> io::Result<()> {
-    text(out, b"taken alone:")?;
-    all_bytes(out)?;
-    text(out, b"\n")
-}
-
-fn ends<W: Write>(out: &mut W, buf: &[u8]) -> io::Result<()> {
-    if buf.len() == 4100 {
-        text(out, &buf[0..4])?;
-        text(out, b"..")?;
-        text(out, &buf[4090..4100])?;
+    write!(out, "taken alone:")?;
+    for b in 0..=255u8 {
+        if normal_form::normalise(&[b], &mut [b'.'; 16]).is_ok() {
+            write!(out, " {b}")?;
+        }
     }
-    Ok(())
+    writeln!(out)
 }
 
-fn long_in<W: Write>(out: &mut W, label: &[u8], word: &[u8], buf: &mut [u8]) -> io::Result<()> {
-    let r = normal_form::normalise(word, buf);
-    handed(out, label, r)?;
-    text(out, b" ")?;
-    ends(out, buf)?;
-    text(out, b"\n")
+fn ends<W: Write>(out: &mut W, buf: &[u8; 4100]) -> io::Result<()> {
+    text(out, &buf[..4])?;
+    text(out, b"..")?;
+    text(out, &buf[4090..])
 }
 
-fn long_word<W: Write>(out: &mut W, label: &[u8], word: &[u8]) -> io::Result<()> {
+fn long_word<W: Write>(out: &mut W, label: &str, word: &[u8]) -> io::Result<()> {
     let mut buf = [b'.'; 4100];
-    long_in(out, label, word, &mut buf)
+    let r = normal_form::normalise(word, &mut buf);
+    handed(out, label, r)?;
+    ends(out, &buf)?;
+    writeln!(out)
 }
 
+// T and then HT over and over.
 fn by_turns(i: usize) -> u8 {
     if i % 2 == 0 { b'T' } else { b'H' }
 }
 
-// T and then HT over and over.
-fn fill_syllables(word: &mut [u8; 4097]) {
-    let mut i: usize = 0;
-    while i < 4097 {
-        word[i] = by_turns(i);
-        i += 1;
-    }
+fn most_syllables<W: Write>(out: &mut W, word: &[u8; 4097]) -> io::Result<()> {
+    long_word(out, "2048 syllables", &word[..4095])?;
+    long_word(out, "2048 syllables and H", &word[..4096])?;
+    long_word(out, "4097 letters", word)
 }
 
+// HT 409 times, and then its inverse.
 fn up_and_down(i: usize) -> u8 {
     if i < 818 {
         if i % 2 == 0 { b'H' } else { b'T' }
@@ -221,69 +191,17 @@ fn up_and_down(i: usize) -> u8 {
     }
 }
 
-// HT 409 times, and then its inverse.
-fn fill_up_and_down(word: &mut [u8; 4090]) {
-    let mut i: usize = 0;
-    while i < 4090 {
-        word[i] = up_and_down(i);
-        i += 1;
-    }
-}
-
-fn syllables<W: Write>(out: &mut W, word: &[u8]) -> io::Result<()> {
-    if word.len() == 4097 {
-        long_word(out, b"2048 syllables", &word[0..4095])?;
-        long_word(out, b"2048 syllables and H", &word[0..4096])?;
-        long_word(out, b"4097 letters", word)?;
-    }
-    Ok(())
-}
-
-fn syllables_of<W: Write>(out: &mut W, word: &[u8; 4097]) -> io::Result<()> {
-    syllables(out, word)
-}
-
-fn most_syllables<W: Write>(out: &mut W) -> io::Result<()> {
-    let mut word = [b'H'; 4097];
-    fill_syllables(&mut word);
-    syllables_of(out, &word)
-}
-
-fn returned<W: Write>(out: &mut W, word: &[u8]) -> io::Result<()> {
-    if word.len() == 4090 {
-        long_word(out, b"up", &word[0..818])?;
-        long_word(out, b"up and down", word)?;
-    }
-    Ok(())
-}
-
-fn returned_of<W: Write>(out: &mut W, word: &[u8; 4090]) -> io::Result<()> {
-    returned(out, word)
-}
-
-fn up_and_back<W: Write>(out: &mut W) -> io::Result<()> {
-    let mut word = [b'H'; 4090];
-    fill_up_and_down(&mut word);
-    returned_of(out, &word)
-}
-
-fn only_tees<W: Write>(out: &mut W) -> io::Result<()> {
-    let word = [b'T'; 4096];
-    long_word(out, b"4096 T", &word)
-}
-
-fn only_identities<W: Write>(out: &mut W) -> io::Result<()> {
-    let word = [b'I'; 4096];
-    long_word(out, b"4096 I", &word)?;
-    let word = [b'I'; 4097];
-    long_word(out, b"4097 I", &word)
+fn up_and_back<W: Write>(out: &mut W, word: &[u8; 4090]) -> io::Result<()> {
+    long_word(out, "up", &word[..818])?;
+    long_word(out, "up and down", word)
 }
 
 fn long_words<W: Write>(out: &mut W) -> io::Result<()> {
-    most_syllables(out)?;
-    up_and_back(out)?;
-    only_tees(out)?;
-    only_identities(out)
+    most_syllables(out, &array::from_fn(by_turns))?;
+    up_and_back(out, &array::from_fn(up_and_down))?;
+    long_word(out, "4096 T", &[b'T'; 4096])?;
+    long_word(out, "4096 I", &[b'I'; 4096])?;
+    long_word(out, "4097 I", &[b'I'; 4097])
 }
 
 fn main(rt: HostRuntime) -> io::Result<()> {

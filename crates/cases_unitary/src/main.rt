@@ -1,11 +1,9 @@
 // Cases of jobs 1 and 2 from docs/SCOPE.md, Either side, with more at each limit: a line each, compared with stdout.
 #![tactic(auto)]
 
-ghost use Rattle.std.specs.Prelude.{◌≤◌, length};
-
 use ring::{Triple, ZOmega};
-use std::io;
 use std::io::Write;
+use std::{array, io};
 use unitary::DOmegaUnitary;
 
 // Shown for the matrix of a refusal.
@@ -17,10 +15,7 @@ const NOUGHT: DOmegaUnitary = DOmegaUnitary {
 };
 
 fn matrix<W: Write>(out: &mut W, t: DOmegaUnitary) -> io::Result<()> {
-    let DOmegaUnitary { z, w, n, k } = t;
-    write!(out, " k={k} n={n}")?;
-    write!(out, " z={},{},{},{}", z.a, z.b, z.c, z.d)?;
-    writeln!(out, " w={},{},{},{}", w.a, w.b, w.c, w.d)
+    writeln!(out, " k={} n={} z={} w={}", t.k, t.n, t.z, t.w)
 }
 
 fn reduced<W: Write>(out: &mut W, label: &str, t: Triple) -> io::Result<()> {
@@ -88,33 +83,20 @@ fn words<W: Write>(out: &mut W) -> io::Result<()> {
 }
 
 // H and T by turns.
-fn by_turns() -> [u8; 244] {
-    let mut ht = [b'H'; 244];
-    for (i, letter) in ht.iter_mut().enumerate() {
-        if i % 2 == 1 {
-            *letter = b'T';
-        }
-    }
-    ht
+fn by_turns(i: usize) -> u8 {
+    if i % 2 == 0 { b'H' } else { b'T' }
 }
 
-fn beginning<W: Write>(out: &mut W, label: &str, word: &[u8], n: usize) -> io::Result<()>
-    requires { n ≤ length word.now }
-{
-    of_word(out, label, &word[..n])
-}
-
-fn powers<W: Write>(out: &mut W) -> io::Result<()> {
-    let ht = by_turns();
-    beginning(out, "HT 60 times", &ht, 120)?;
-    beginning(out, "HT 119 times", &ht, 238)?;
-    beginning(out, "HT 120 times", &ht, 240)?;
-    of_word(out, "HT 122 times", &ht)
+fn powers<W: Write>(out: &mut W, ht: &[u8; 244]) -> io::Result<()> {
+    of_word(out, "HT 60 times", &ht[..120])?;
+    of_word(out, "HT 119 times", &ht[..238])?;
+    of_word(out, "HT 120 times", &ht[..240])?;
+    of_word(out, "HT 122 times", ht)
 }
 
 fn main(rt: HostRuntime) -> io::Result<()> {
     let mut out = rt.stdout();
     triples(&mut out)?;
     words(&mut out)?;
-    powers(&mut out)
+    powers(&mut out, &array::from_fn(by_turns))
 }

@@ -130,17 +130,8 @@ fn rotate<W: Write>(out: &mut W, t: Triple) -> io::Result<()> {
 }
 
 // The oracle asks for Cliffords of i32 only.
-fn narrow(x: i64) -> i32 {
-    i32::try_from(x).unwrap_or(0)
-}
-
 fn four_of(x: ZOmega) -> Four {
-    Four {
-        a: narrow(x.a),
-        b: narrow(x.b),
-        c: narrow(x.c),
-        d: narrow(x.d),
-    }
+    Four::from([x.a, x.b, x.c, x.d].map(|c| i32::try_from(c).unwrap_or(0)))
 }
 
 fn parts<W: Write>(out: &mut W, q: Clifford) -> io::Result<()> {
