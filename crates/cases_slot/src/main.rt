@@ -2,8 +2,9 @@
 // ones, a line each (line.rt); and every tail (tails.rt). Compared with stdout.
 #![tactic(auto)]
 
+use exact::Refusal;
 use line::case;
-use shown::{number, text};
+use shown::text;
 use std::io;
 use std::io::Write;
 
@@ -89,37 +90,27 @@ fn no_letters<W: Write>(out: &mut W) -> io::Result<()> {
     small_case(out, b"255", 255)
 }
 
+// A byte that is taken from the empty record, or refused by another number than 2.
 fn alone<W: Write>(out: &mut W, letter: u8) -> io::Result<()> {
-    let mut syllables = [0; 4096];
-    let mut rest = [0, 1, 0, 0, 0, 0];
-    let a = slot::add(letter, &mut syllables, &mut rest);
-    if a.refusal != 2 {
-        text(out, b" ")?;
-        number(out, letter as u64)?;
+    match slot::add(letter, &mut [0; 4096], &mut [0, 1, 0, 0, 0, 0]) {
+        Err(Refusal::Letter(_)) => Ok(()),
+        _ => write!(out, " {letter}"),
     }
-    Ok(())
-}
-
-fn all_bytes<W: Write>(out: &mut W) -> io::Result<()> {
-    let mut b: u8 = 0;
-    while b < 255 {
-        alone(out, b)?;
-        b += 1;
-    }
-    alone(out, b)
 }
 
 fn alphabet<W: Write>(out: &mut W) -> io::Result<()> {
     text(out, b"not refused 2:")?;
-    all_bytes(out)?;
-    text(out, b"\n")
+    for letter in 0..=255 {
+        alone(out, letter)?;
+    }
+    writeln!(out)
 }
 
 // A T, which would be one syllable more, to the small record with another code, its bytes as the codes' sum has them or as they were.
 fn coded<W: Write>(out: &mut W, at: usize, code: u8, bytes: u64) -> io::Result<()> {
-    if at < 4096 {
-        let mut syllables = small();
-        syllables[at] = code;
+    let mut syllables = small();
+    if let Some(place) = syllables.get_mut(at) {
+        *place = code;
         case(out, b"code", b"T", &syllables, &[3, bytes, 1, 0, 1, 5])?;
     }
     Ok(())
@@ -155,9 +146,9 @@ fn codes_behind<W: Write>(out: &mut W) -> io::Result<()> {
 
 // The same with another number.
 fn numbered<W: Write>(out: &mut W, at: usize, value: u64) -> io::Result<()> {
-    if at < 6 {
-        let mut rest = [3, 7, 1, 0, 1, 5];
-        rest[at] = value;
+    let mut rest = [3, 7, 1, 0, 1, 5];
+    if let Some(place) = rest.get_mut(at) {
+        *place = value;
         case(out, b"number", b"T", &small(), &rest)?;
     }
     Ok(())
@@ -173,7 +164,7 @@ fn wrong_counts<W: Write>(out: &mut W) -> io::Result<()> {
     numbered(out, 0, 4097)?;
     numbered(out, 0, 4294967296)?;
     numbered(out, 0, 4294967299)?;
-    numbered(out, 0, 18446744073709551615)
+    numbered(out, 0, u64::MAX)
 }
 
 fn wrong_bytes<W: Write>(out: &mut W) -> io::Result<()> {
@@ -183,7 +174,7 @@ fn wrong_bytes<W: Write>(out: &mut W) -> io::Result<()> {
     numbered(out, 1, 263)?;
     numbered(out, 1, 4294967296)?;
     numbered(out, 1, 4294967303)?;
-    numbered(out, 1, 18446744073709551615)
+    numbered(out, 1, u64::MAX)
 }
 
 // Out of range, right if it were reduced, and right if it were cut.
@@ -206,18 +197,14 @@ fn wrong_tails<W: Write>(out: &mut W) -> io::Result<()> {
     numbered(out, 5, 261)?;
     numbered(out, 5, 4294967296)?;
     numbered(out, 5, 4294967301)?;
-    numbered(out, 5, 18446744073709551615)
+    numbered(out, 5, u64::MAX)
 }
 
 // A code so many times.
 fn filled(code: u8, count: usize) -> [u8; 4096] {
     let mut syllables = [0; 4096];
-    let mut i: usize = 0;
-    while i < 4096 {
-        if i < count {
-            syllables[i] = code;
-        }
-        i += 1;
+    if let Some(front) = syllables.get_mut(..count) {
+        front.fill(code);
     }
     syllables
 }

@@ -1,9 +1,0 @@
--- No more codes have changed than were looked at.
-use Rattle.std.proofs.Common.{◌-◌, ◌≤◌}
-use Rattle.cases_slot.proofs.line.codes_changed.Given as goal
-
-abbrev pub invariant-loop-i : goal.invariant-loop-i
-invariant-loop-i l = l.n ≤ l.i
-
-abbrev pub decreases-loop-i : goal.decreases-loop-i
-decreases-loop-i l = 4096 - l.i
