@@ -27,12 +27,6 @@ pub fn triple_of(k: i64, n: u8, zw: &[i64; 8]) -> Triple
     }
 }
 
-fn wide(x: u8) -> i64
-    ensures { Wide x result }
-{
-    i64::from(x)
-}
-
 pub fn put_ten(t: DOmegaUnitary, out: &mut [i64; 10])
     ensures { out.new ≡ ten t }
 {
@@ -129,7 +123,7 @@ pub fn put_rotation(r: Rotation, out: &mut [i64; 19])
 {
     let Rotation { x, y, z, e } = r;
     *out = [
-        wide(e),
+        i64::from(e),
         x.x.p,
         x.x.q,
         y.x.p,
