@@ -1,20 +1,18 @@
 // Cases of jobs 3 and 5, on either side of each limit: a line each, compared with stdout.
 #![tactic(auto)]
 
-ghost use Rattle.std.specs.Prelude.{◌≤◌};
-
 use exact::Refusal;
 use normal_form::Counts;
 use shown::text;
+use std::io;
 use std::io::Write;
-use std::{array, io};
 
 fn handed<W: Write>(out: &mut W, label: &str, r: Result<Counts, Refusal>) -> io::Result<()> {
     match r {
-        Ok(counts) => write!(
+        Ok(c) => write!(
             out,
             "{label}: refusal=0 place=0 bytes={} t={} ",
-            counts.bytes, counts.tees
+            c.bytes, c.tees
         ),
         Err(e) => write!(
             out,
@@ -26,87 +24,102 @@ fn handed<W: Write>(out: &mut W, label: &str, r: Result<Counts, Refusal>) -> io:
 }
 
 // The whole buffer is shown, so that a byte that should not have been written is seen.
-fn job3<W: Write>(out: &mut W, word: &str, room: usize) -> io::Result<()>
-    requires { room ≤ 16 }
+fn case<W: Write, J: Fn(&[u8], &mut [u8]) -> Result<Counts, Refusal>>(
+    out: &mut W,
+    job: J,
+    word: &str,
+    room: usize,
+) -> io::Result<()>
+    requires { J.IsAlwaysCallable job }
 {
     let mut buf = [b'.'; 16];
-    let r = normal_form::normalise(word.as_bytes(), &mut buf[..room]);
+    let Some(lent) = buf.get_mut(..room) else {
+        return Ok(());
+    };
+    let r = job(word.as_bytes(), lent);
     handed(out, word, r)?;
     text(out, &buf)?;
     writeln!(out)
 }
 
-fn job5<W: Write>(out: &mut W, word: &str, room: usize) -> io::Result<()>
-    requires { room ≤ 16 }
-{
-    let mut buf = [b'.'; 16];
-    let r = normal_form::phase_free(word.as_bytes(), &mut buf[..room]);
-    handed(out, word, r)?;
-    text(out, &buf)?;
-    writeln!(out)
+fn job3<W: Write>(out: &mut W, word: &str, room: usize) -> io::Result<()> {
+    case(out, normal_form::normalise, word, room)
+}
+
+fn job5<W: Write>(out: &mut W, word: &str, room: usize) -> io::Result<()> {
+    case(out, normal_form::phase_free, word, room)
 }
 
 fn document<W: Write>(out: &mut W) -> io::Result<()> {
-    job3(out, "", 16)?;
-    job3(out, "T", 16)?;
-    job3(out, "TT", 16)?;
-    job3(out, "TTTT", 16)?;
-    job3(out, "HH", 16)?;
-    job3(out, "HTT", 16)?;
-    job3(out, "SHTT", 16)?;
-    job3(out, "HSH", 16)?;
-    job3(out, "XT", 16)?;
-    job3(out, "WT", 16)?;
-    job3(out, "HTHT", 16)
+    for word in [
+        "", "T", "TT", "TTTT", "HH", "HTT", "SHTT", "HSH", "XT", "WT", "HTHT",
+    ] {
+        job3(out, word, 16)?;
+    }
+    Ok(())
 }
 
 fn phase_free_words<W: Write>(out: &mut W) -> io::Result<()> {
-    job5(out, "", 1)?;
-    job5(out, "", 0)?;
-    job5(out, "T", 16)?;
-    job5(out, "T", 2)?;
-    job5(out, "T", 1)?;
-    job5(out, "TW", 16)?;
-    job5(out, "TW", 2)?;
-    job5(out, "TW", 1)?;
-    job5(out, "WT", 2)?;
-    job5(out, "WT", 1)?;
-    job5(out, "W", 16)?;
-    job5(out, "W", 1)?;
-    job5(out, "W", 0)?;
-    job5(out, "HW", 1)?;
-    job5(out, "HW", 0)?;
-    job5(out, "XSW", 2)?;
-    job5(out, "XSW", 1)?;
-    job5(out, "HSH", 16)?;
-    job5(out, "XT", 3)?;
-    job5(out, "XT", 2)?;
-    job5(out, "WWWWWWWW", 1)?;
-    job5(out, "WWWWWWWW", 0)
+    for (word, room) in [
+        ("", 1),
+        ("", 0),
+        ("T", 16),
+        ("T", 2),
+        ("T", 1),
+        ("TW", 16),
+        ("TW", 2),
+        ("TW", 1),
+        ("WT", 2),
+        ("WT", 1),
+        ("W", 16),
+        ("W", 1),
+        ("W", 0),
+        ("HW", 1),
+        ("HW", 0),
+        ("XSW", 2),
+        ("XSW", 1),
+        ("HSH", 16),
+        ("XT", 3),
+        ("XT", 2),
+        ("WWWWWWWW", 1),
+        ("WWWWWWWW", 0),
+    ] {
+        job5(out, word, room)?;
+    }
+    Ok(())
 }
 
 fn identities<W: Write>(out: &mut W) -> io::Result<()> {
-    job3(out, "I", 16)?;
-    job3(out, "I", 1)?;
-    job3(out, "I", 0)?;
-    job3(out, "II", 16)?;
-    job3(out, "IT", 16)?;
-    job3(out, "ITI", 16)?;
-    job3(out, "HIH", 16)?;
-    job3(out, "SHTIT", 16)?;
-    job3(out, "HTI", 16)?;
-    job3(out, "HTIHT", 16)?;
-    job3(out, "IXTHS", 16)?;
-    job3(out, "XITHS", 16)?;
-    job3(out, "XTIHS", 16)?;
-    job3(out, "XTHIS", 16)?;
-    job3(out, "XTHSI", 16)?;
-    job5(out, "I", 16)?;
-    job5(out, "I", 0)?;
-    job5(out, "TIW", 16)?;
-    job5(out, "WI", 16)?;
-    job5(out, "XIT", 3)?;
-    job5(out, "XIT", 2)
+    for (word, room) in [
+        ("I", 16),
+        ("I", 1),
+        ("I", 0),
+        ("II", 16),
+        ("IT", 16),
+        ("ITI", 16),
+        ("HIH", 16),
+        ("SHTIT", 16),
+        ("HTI", 16),
+        ("HTIHT", 16),
+        ("IXTHS", 16),
+        ("XITHS", 16),
+        ("XTIHS", 16),
+        ("XTHIS", 16),
+        ("XTHSI", 16),
+    ] {
+        job3(out, word, room)?;
+    }
+    for (word, room) in [
+        ("I", 16),
+        ("I", 0),
+        ("TIW", 16),
+        ("WI", 16),
+        ("XIT", 3),
+        ("XIT", 2),
+    ] {
+        job5(out, word, room)?;
+    }
+    Ok(())
 }
 
 // Normal words, which are given back as they are, and so are the words of job 5, which have no W.
@@ -136,20 +149,25 @@ fn places<W: Write>(out: &mut W) -> io::Result<()> {
 }
 
 fn rooms<W: Write>(out: &mut W) -> io::Result<()> {
-    job3(out, "T", 2)?;
-    job3(out, "T", 1)?;
-    job3(out, "XT", 11)?;
-    job3(out, "XT", 10)?;
-    job3(out, "XT", 9)?;
-    job3(out, "XT", 0)?;
-    job3(out, "", 0)?;
-    job3(out, "", 1)
+    for (word, room) in [
+        ("T", 2),
+        ("T", 1),
+        ("XT", 11),
+        ("XT", 10),
+        ("XT", 9),
+        ("XT", 0),
+        ("", 0),
+        ("", 1),
+    ] {
+        job3(out, word, room)?;
+    }
+    Ok(())
 }
 
 // The bytes that are a word by themselves.
 fn alphabet<W: Write>(out: &mut W) -> io::Result<()> {
     write!(out, "taken alone:")?;
-    for b in 0..=255u8 {
+    for b in 0..=u8::MAX {
         if normal_form::normalise(&[b], &mut [b'.'; 16]).is_ok() {
             write!(out, " {b}")?;
         }
@@ -157,51 +175,64 @@ fn alphabet<W: Write>(out: &mut W) -> io::Result<()> {
     writeln!(out)
 }
 
-fn ends<W: Write>(out: &mut W, buf: &[u8; 4100]) -> io::Result<()> {
-    text(out, &buf[..4])?;
+// Of the buffer its first four bytes and its last ten.
+fn ends<W: Write>(out: &mut W, buf: &[u8]) -> io::Result<()> {
+    let (Some(front), Some(back)) = (buf.get(..4), buf.get(4090..)) else {
+        return Ok(());
+    };
+    text(out, front)?;
     text(out, b"..")?;
-    text(out, &buf[4090..])
+    text(out, back)
 }
 
-fn long_word<W: Write>(out: &mut W, label: &str, word: &[u8]) -> io::Result<()> {
+// The first so many letters of a word.
+fn long_word<W: Write>(out: &mut W, label: &str, word: &[u8], letters: usize) -> io::Result<()> {
+    let Some(begun) = word.get(..letters) else {
+        return Ok(());
+    };
     let mut buf = [b'.'; 4100];
-    let r = normal_form::normalise(word, &mut buf);
+    let r = normal_form::normalise(begun, &mut buf);
     handed(out, label, r)?;
     ends(out, &buf)?;
     writeln!(out)
 }
 
 // T and then HT over and over.
-fn by_turns(i: usize) -> u8 {
-    if i % 2 == 0 { b'T' } else { b'H' }
-}
-
-fn most_syllables<W: Write>(out: &mut W, word: &[u8; 4097]) -> io::Result<()> {
-    long_word(out, "2048 syllables", &word[..4095])?;
-    long_word(out, "2048 syllables and H", &word[..4096])?;
-    long_word(out, "4097 letters", word)
-}
-
-// HT 409 times, and then its inverse.
-fn up_and_down(i: usize) -> u8 {
-    if i < 818 {
-        if i % 2 == 0 { b'H' } else { b'T' }
-    } else {
-        if (i - 818) % 8 == 7 { b'H' } else { b'T' }
+fn most_syllables<W: Write>(out: &mut W) -> io::Result<()> {
+    let mut word = [b'T'; 4097];
+    for (i, letter) in word.iter_mut().enumerate() {
+        if i % 2 == 1 {
+            *letter = b'H';
+        }
     }
+    long_word(out, "2048 syllables", &word, 4095)?;
+    long_word(out, "2048 syllables and H", &word, 4096)?;
+    long_word(out, "4097 letters", &word, 4097)
 }
 
-fn up_and_back<W: Write>(out: &mut W, word: &[u8; 4090]) -> io::Result<()> {
-    long_word(out, "up", &word[..818])?;
-    long_word(out, "up and down", word)
+// HT 409 times, and then its inverse: H behind each seven T.
+fn up_and_back<W: Write>(out: &mut W) -> io::Result<()> {
+    let mut word = [b'T'; 4090];
+    for (i, letter) in word.iter_mut().enumerate() {
+        let is_h = if i < 818 {
+            i % 2 == 0
+        } else {
+            (i - 818) % 8 == 7
+        };
+        if is_h {
+            *letter = b'H';
+        }
+    }
+    long_word(out, "up", &word, 818)?;
+    long_word(out, "up and down", &word, 4090)
 }
 
 fn long_words<W: Write>(out: &mut W) -> io::Result<()> {
-    most_syllables(out, &array::from_fn(by_turns))?;
-    up_and_back(out, &array::from_fn(up_and_down))?;
-    long_word(out, "4096 T", &[b'T'; 4096])?;
-    long_word(out, "4096 I", &[b'I'; 4096])?;
-    long_word(out, "4097 I", &[b'I'; 4097])
+    most_syllables(out)?;
+    up_and_back(out)?;
+    long_word(out, "4096 T", &[b'T'; 4096], 4096)?;
+    long_word(out, "4096 I", &[b'I'; 4096], 4096)?;
+    long_word(out, "4097 I", &[b'I'; 4097], 4097)
 }
 
 fn main(rt: HostRuntime) -> io::Result<()> {
