@@ -54,7 +54,7 @@ fn written<W: Write>(
 ) -> io::Result<()> {
     match answer {
         Ok(length) => write!(out, "0 {length}")?,
-        Err(e) => write!(out, "{} 0", e.number())?,
+        Err(refusal) => write!(out, "{} 0", refusal.number())?,
     }
     numbers(out, rest)?;
     text(out, b" ")?;
