@@ -6,10 +6,17 @@ use Rattle.exact.specs.Meaning.Number.{Ω}
 use Rattle.exact.specs.Meaning.Matrix.{Matrix, unit, ◌·◌}
 use Rattle.exact.specs.Meaning.Word.{Letter, I, H, S, X, W, T'}
 use Rattle.exact.specs.Meaning.Text.{ascii}
+use Rattle.circuit.specs.declared.Edition as Declared
+use Rattle.circuit.specs.declared.Edition.TheVariants.{Two, Three}
 
 -- ---- editions, and what differs between them
 pub data Edition : Type 0 where
   two three : Edition
+
+-- as the functions are handed it
+abbrev pub edition_of : Declared.Edition → Edition
+edition_of Two = two
+edition_of Three = three
 
 pub record Row : Type 0 where
   pub version : String

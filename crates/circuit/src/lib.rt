@@ -1,6 +1,32 @@
-// The editions' headers, as bytes.
+// The editions of OpenQASM, and their headers as bytes.
 #![tactic(auto)]
 
-pub const HEADER_2: [u8; 47] = *b"OPENQASM 2.0;\ninclude \"qelib1.inc\";\nqreg q[1];\n";
+ghost use Rattle.std.specs.Prelude.{◌≡◌};
+ghost use Rattle.circuit.specs.Meaning.{header, row, edition_of};
 
-pub const HEADER_3: [u8; 50] = *b"OPENQASM 3.0;\ninclude \"stdgates.inc\";\nqubit[1] q;\n";
+#[derive(Clone, Copy, PartialEq, Eq)]
+pub enum Edition {
+    Two,
+    Three,
+}
+
+impl Edition {
+    pub fn header(self) -> &'static [u8]
+        ensures { result.now ≡ header (edition_of self) }
+    {
+        match self {
+            Edition::Two => b"OPENQASM 2.0;\ninclude \"qelib1.inc\";\nqreg q[1];\n",
+            Edition::Three => b"OPENQASM 3.0;\ninclude \"stdgates.inc\";\nqubit[1] q;\n",
+        }
+    }
+
+    // Whether it has the global phase as a statement.
+    pub fn has_phase(self) -> bool
+        ensures { result ≡ (row (edition_of self)).has_phase }
+    {
+        match self {
+            Edition::Two => false,
+            Edition::Three => true,
+        }
+    }
+}

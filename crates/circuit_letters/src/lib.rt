@@ -5,6 +5,7 @@ ghost use Rattle.std.specs.Prelude.{[], ◌∷◌, ◌≤◌, ◌<◌, length};
 ghost use Rattle.circuit.specs.Lines.{OfCircuit};
 ghost use Rattle.circuit_letters.specs.Letters.{Before, PutsBefore, Stands, PutsStatement, PutsLetters};
 
+// How far the text is walked, and the place that the letters which are put begin at.
 #[derive(Clone, Copy)]
 struct Step {
     at: usize,
@@ -31,38 +32,33 @@ fn put_esses(buf: &mut [u8], left: usize) -> usize
 }
 
 // The letters of the statement at a place, put before a place of the buffer; its second byte tells its kind.
-fn put_statement(text: &[u8], at: usize, buf: &mut [u8], left: usize) -> Step
-    requires { Stands text.now at left (length buf.old) }
-    ensures { PutsStatement text.now at left buf.old result buf.new }
+fn put_statement(text: &[u8], step: Step, buf: &mut [u8]) -> Step
+    requires { Stands text.now step.at step.left (length buf.old) }
+    ensures { PutsStatement text.now step.at step.left buf.old result buf.new }
 {
+    let Step { at, left } = step;
     let b = text[at];
-    let kind = text[at + 1];
-    if kind == b' ' {
-        // a letter is its gate's name in upper case
-        let first = put_before(buf, left, b - 32);
-        return Step {
-            at: at + 8,
-            left: first,
-        };
-    }
-    if kind != b'd' {
-        let first = put_before(buf, left, b'W');
-        return Step {
-            at: at + 14,
-            left: first,
-        };
-    }
-    let esses = put_esses(buf, left);
-    if b == b's' {
-        return Step {
-            at: at + 10,
-            left: esses,
-        };
-    }
-    let first = put_before(buf, esses, b'T');
-    Step {
-        at: at + 10,
-        left: first,
+    match text[at + 1] {
+        b' ' => {
+            // a letter is its gate's name in upper case
+            let left = put_before(buf, left, b - 32);
+            Step { at: at + 8, left }
+        }
+        b'd' => {
+            let esses = put_esses(buf, left);
+            if b == b's' {
+                return Step {
+                    at: at + 10,
+                    left: esses,
+                };
+            }
+            let left = put_before(buf, esses, b'T');
+            Step { at: at + 10, left }
+        }
+        _ => {
+            let left = put_before(buf, left, b'W');
+            Step { at: at + 14, left }
+        }
     }
 }
 
@@ -71,11 +67,12 @@ pub fn put_letters(text: &[u8], start: usize, letters: usize, buf: &mut [u8])
     requires fact_2 { letters ≤ length buf.old }
     ensures { PutsLetters text.now buf.old buf.new }
 {
-    let mut at = start;
-    let mut left = letters;
-    while at < text.len() {
-        let step = put_statement(text, at, buf, left);
-        at = step.at;
-        left = step.left;
+    let mut step = Step {
+        at: start,
+        left: letters,
+    };
+    // no `for`: a statement's line has its own length
+    while step.at < text.len() {
+        step = put_statement(text, step, buf);
     }
 }

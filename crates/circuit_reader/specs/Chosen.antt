@@ -1,17 +1,17 @@
 -- Which statement a line can only be, by its first two bytes, and where it stops being it; and the same of the header, by its tenth.
 -- Assumes nothing.
-use Rattle.std.specs.Prelude.{◌≡◌, refl, ◌⊎◌, Bool, true, false, not, ◌||◌, List, ◌++◌, ℕ, ◌+◌, ◌<◌, ◌≤◌, T, eqb, ltb, length, take, drop, get_or}
-use Rattle.std.proofs.Common.{sym, ◌∙◌, ap, ap₂, subst, inl, inr, add-zero, arith, eqb-true, ltb-true, ltb-false, eqb→eq, lit<, length-drop, take-append-drop, get_or-drop, get_or-take, take_all}
+use Rattle.std.specs.Prelude.{◌≡◌, refl, ◌⊎◌, Bool, true, false, not, ◌||◌, List, ◌++◌, ℕ, ◌+◌, ◌<◌, ◌≤◌, T, eqb, ltb, length, take, drop, get_or, Result, Ok, Err}
+use Rattle.std.proofs.Common.{sym, ◌∙◌, ap, subst, inl, inr, add-zero, arith, eqb-true, ltb-true, ltb-false, eqb→eq, lit<, length-drop, take-append-drop, get_or-drop, get_or-take, take_all}
 use Rattle.std.proofs.lemmas.Bool.{eqb-false}
 use Rattle.std.proofs.Math.Facts.{or_yes}
-use Rattle.exact.specs.Meaning.Text.{Stops}
+use Rattle.exact.specs.declared.Refusal.{Refusal}
 use Rattle.circuit_reader.specs.declared.Line.{Line}
-use Rattle.circuit.specs.Meaning.{Edition, two, three, Statement, h', s', t', x', sdg, tdg, gphase, allowed, header, Right, read_as}
+use Rattle.circuit.specs.Meaning.{Edition, two, three, Statement, h', s', t', x', sdg, tdg, gphase, allowed, header, read_as}
 use Rattle.circuit.specs.Lines.{line_of}
 use Rattle.circuit.proofs.Lines.{Each, each, line_long, number, same_number, computed}
 use Rattle.circuit.specs.Stuck.{Parts, Stuck, IsLine}
 use Rattle.circuit.proofs.Stuck.{header_stops}
-use Rattle.circuit_reader.specs.Reading.{Along, MatchIs, LineIs, SameIs, Heading, Headed}
+use Rattle.circuit_reader.specs.Reading.{Along, MatchIs, LineIs, SameIs, Heading, Headed, WalkIs}
 
 -- ---- a line that can only be the statement a: every other differs from it in the first byte or the second
 pub record Chosen (s : List ℕ) (at : ℕ) (a : Statement) : Type 0 where
@@ -65,26 +65,36 @@ module _ (s : List ℕ) (at : ℕ) (l : at < length s) where
         }
 
   -- what was looked for as the line of a is the line at the place, or the text stops
-  pub took : (phase : Bool) (a : Statement) → T (allowed phase a) → Chosen s at a → (m : Line) → MatchIs s at (line_of a) (length (read_as a)) m
-      → LineIs phase s at m
-  took phase a may h (Line.Stopped p) x =
-      record { k = x.k; is = x.is; stuck = chosen_stuck phase a may h x.k x.along x.less }
-  took phase a may h (Line.Is next n) x = record { statement = a; may = may; whole = x.1; count = x.0 }
+  pub took : (phase : Bool) (a : Statement) → T (allowed phase a) → Chosen s at a → (m : Result Line Refusal)
+      → MatchIs s at (line_of a) (length (read_as a)) m → LineIs phase s at m
+  took phase a may h (Err e) x =
+      let l = x.there in
+      record {
+        at = x.at;
+        is = x.is;
+        there = record { k = l.k; is = l.is; stuck = chosen_stuck phase a may h l.k l.along l.less };
+      }
+  took phase a may h (Ok l) x = record { statement = a; may = may; whole = x.1; count = x.0 }
 
   -- no statement starts with the byte
   pub none_starts : (phase : Bool) → ((b : Statement) → T (allowed phase b) → get_or s at 0 ≡ get_or (line_of b) 0 0 → ⊥)
-      → LineIs phase s at (Line.Stopped at)
+      → LineIs phase s at (Err (Refusal.Statement at))
   none_starts phase n =
       record {
-        k = 0;
-        is = omega arith;
-        stuck =
+        at = at;
+        is = refl;
+        there =
             record {
-              word = line_of h';
-              next = record { statement = h'; may = tt; is = refl };
-              upto = omega arith;
-              along = refl;
-              parts = λ w i. subst (λ x. Parts (drop at s) x 0) (sym i.is) (parts_first i.statement 0 (n i.statement i.may));
+              k = 0;
+              is = omega arith;
+              stuck =
+                  record {
+                    word = line_of h';
+                    next = record { statement = h'; may = tt; is = refl };
+                    upto = omega arith;
+                    along = refl;
+                    parts = λ w i. subst (λ x. Parts (drop at s) x 0) (sym i.is) (parts_first i.statement 0 (n i.statement i.may));
+                  };
             };
       }
 
@@ -118,7 +128,7 @@ module _ (s : List ℕ) (at : ℕ) (a : Statement) (f : get_or s at 0 ≡ get_or
               last (inr v) = inr (apart (get_or (line_of b) 1 0) v)
 
 -- ---- a lemma for each test of the first two bytes
-module _ (s : List ℕ) (at : ℕ) (phase : Bool) (l : at < length s) (m : Line) where
+module _ (s : List ℕ) (at : ℕ) (phase : Bool) (l : at < length s) (m : Result Line Refusal) where
   taken : (a : Statement) (told : ℕ → Bool) → T (allowed phase a) → get_or s at 0 ≡ get_or (line_of a) 0 0
       → ((n : ℕ) → T (told n) → get_or s (at + 1) 0 ≡ n → ⊥) → Each (λ b. T (Test a told b))
       → MatchIs s at (line_of a) (length (read_as a)) m → LineIs phase s at m
@@ -133,12 +143,8 @@ module _ (s : List ℕ) (at : ℕ) (phase : Bool) (l : at < length s) (m : Line)
   pub line_x : get_or s at 0 ≡ 120 → MatchIs s at (line_of x') 1 m → LineIs phase s at m
   line_x f = taken x' (λ n. false) tt f nothing_told computed
 
-  pub line_phase : get_or s at 0 ≡ 103 → not phase ≡ false → MatchIs s at (line_of gphase) 1 m → LineIs phase s at m
-  line_phase f e = taken gphase (λ n. false) (yes_phase phase e) f nothing_told computed
-    where
-      yes_phase : (p : Bool) → not p ≡ false → T p
-      yes_phase true e = tt
-      yes_phase false e = subst T e tt
+  pub line_phase : get_or s at 0 ≡ 103 → (z : Bool) → z ≡ phase → z ≡ true → MatchIs s at (line_of gphase) 1 m → LineIs phase s at m
+  line_phase f z e g = taken gphase (λ n. false) (subst T (sym (sym e ∙ g)) tt) f nothing_told computed
 
   -- whether the second byte is d was looked at
   module _ (d : Bool) (looked : d ≡ eqb (get_or s (at + 1) 0) 100) where
@@ -167,23 +173,36 @@ module _ (s : List ℕ) (at : ℕ) (phase : Bool) (l : at < length s) (m : Line)
       line_tdg f = taken tdg (λ n. not (eqb n 100)) tt f only_d computed
 
 -- no statement starts so
-module _ (s : List ℕ) (at : ℕ) (phase : Bool) (l : at < length s) (h : get_or s at 0 ≡ 104 → ⊥) (x : get_or s at 0 ≡ 120 → ⊥)
-    (es : get_or s at 0 ≡ 115 → ⊥) (t : get_or s at 0 ≡ 116 → ⊥) where
-  pub line_none : (get_or s at 0 ≡ 103 → ⊥) → LineIs phase s at (Line.Stopped at)
-  line_none g =
+module _ (s : List ℕ) (at : ℕ) (phase : Bool) (l : at < length s) where
+  pub line_none : (get_or s at 0 ≡ 104 → ⊥) → (get_or s at 0 ≡ 120 → ⊥) → (get_or s at 0 ≡ 115 → ⊥) → (get_or s at 0 ≡ 116 → ⊥)
+      → (get_or s at 0 ≡ 103 → ⊥) → LineIs phase s at (Err (Refusal.Statement at))
+  line_none h x es t g =
       none_starts s at l phase
       (each (λ b. T (allowed phase b) → get_or s at 0 ≡ get_or (line_of b) 0 0 → ⊥)
       ((λ u. h), ((λ u. es), ((λ u. t), ((λ u. x), ((λ u. es), ((λ u. t), (λ u. g))))))))
 
-  pub line_no_phase : not phase ≡ true → LineIs phase s at (Line.Stopped at)
-  line_no_phase e =
+  pub line_no_phase : get_or s at 0 ≡ 103 → (z : Bool) → z ≡ phase → z ≡ false → LineIs phase s at (Err (Refusal.Statement at))
+  line_no_phase f z e g =
       none_starts s at l phase
-      (each (λ b. T (allowed phase b) → get_or s at 0 ≡ get_or (line_of b) 0 0 → ⊥)
-      ((λ u. h), ((λ u. es), ((λ u. t), ((λ u. x), ((λ u. es), ((λ u. t), (λ u. no_phase phase e u))))))))
-    where
-      no_phase : (p : Bool) → not p ≡ true → T p → get_or s at 0 ≡ 103 → ⊥
-      no_phase true e u f = subst T (sym e) tt
-      no_phase false e u f = u
+      (each (λ b. T (allowed phase b) → get_or s at 0 ≡ get_or (line_of b) 0 0 → ⊥) (
+        (λ u q. omega arith),
+        (
+          (λ u q. omega arith),
+          (
+            (λ u q. omega arith),
+            (
+              (λ u q. omega arith),
+              (
+                (λ u q. omega arith),
+                (
+                  (λ u q. omega arith),
+                  (λ u q. subst T (sym e ∙ g) u),
+                ),
+              ),
+            ),
+          ),
+        ),
+      ))
 
 -- ---- the header
 -- both headers have the same bytes before the tenth
@@ -197,76 +216,68 @@ header_long : (d : Edition) → 9 < length (header d)
 header_long two = lit< tt
 header_long three = lit< tt
 
-module _ {s head : List ℕ} {phase : Bool} (h : Heading s head phase) {k : ℕ} (g : Along s head k) where
-  g' : Along s (header h.edition) k
-  g' = subst (λ w. Along s w k) h.head_is g
+module _ {s : List ℕ} {edition : Edition} (h : Heading s edition) (head : List ℕ) (head-is : head ≡ header edition) where
+  module _ {k : ℕ} (g : Along s head k) where
+    g' : Along s (header edition) k
+    g' = subst (λ w. Along s w k) head-is g
 
-  module _ (less : k < length (header h.edition)) where
-    heading_parts : (d : Edition) → Parts s (header d) k
-    heading_parts d = go (h.others d)
+    module _ (less : k < length (header edition)) where
+      heading_parts : (d : Edition) → Parts s (header d) k
+      heading_parts d = go (h.others d)
+        where
+          before : (z : Bool) → ltb k 9 ≡ z → (get_or s 9 0 ≡ get_or (header d) 9 0 → ⊥) → Parts s (header d) k
+          before true q n =
+              let m : k < 9 = ltb-true k 9 q in
+              record {
+                at = k;
+                upto = omega arith;
+                within = omega (arith, header_long d);
+                differ = λ u v. g'.differ less u (v ∙ alike d edition k m);
+              }
+          before false q n = record { at = 9; upto = ltb-false k 9 q; within = header_long d; differ = λ u. n }
+
+          go : (d ≡ edition) ⊎ (get_or s 9 0 ≡ get_or (header d) 9 0 → ⊥) → Parts s (header d) k
+          go (inl e) =
+              subst (λ x. Parts s (header x) k) (sym e) (record { at = k; upto = omega arith; within = less; differ = g'.differ less })
+          go (inr n) = before (ltb k 9) refl n
+
+    pub heading_stops : k < length head → WalkIs s (Err (Refusal.Statement k))
+    heading_stops l =
+        header_stops s k
+        (record {
+          word = header edition;
+          next = record { edition = edition; is = refl };
+          upto = g'.upto;
+          along = g'.along;
+          parts = λ w i. subst (λ x. Parts s x k) (sym i.is) (heading_parts (omega (arith, ap length head-is)) i.edition);
+        })
+
+    pub heading_along : length head ≤ k → Headed s (length head) edition
+    heading_along l =
+        record {
+          start_is = ap length head-is;
+          there =
+              sym (take-append-drop (length head) s)
+              ∙ ap (λ x. x ++ drop (length head) s) (ap (λ n. take n s) all ∙ g.along ∙ take_all k head l ∙ head-is);
+        }
       where
-        before : (z : Bool) → ltb k 9 ≡ z → (get_or s 9 0 ≡ get_or (header d) 9 0 → ⊥) → Parts s (header d) k
-        before true q n =
-            let m : k < 9 = ltb-true k 9 q in
-            record {
-              at = k;
-              upto = omega arith;
-              within = omega (arith, header_long d);
-              differ = λ u v. g'.differ less u (v ∙ alike d h.edition k m);
-            }
-        before false q n = record { at = 9; upto = ltb-false k 9 q; within = header_long d; differ = λ u. n }
+        all : length head ≡ k
+        all = omega (arith, g.upto_word)
 
-        go : (d ≡ h.edition) ⊎ (get_or s 9 0 ≡ get_or (header d) 9 0 → ⊥) → Parts s (header d) k
-        go (inl e) =
-            subst (λ x. Parts s (header x) k) (sym e) (record { at = k; upto = omega arith; within = less; differ = g'.differ less })
-        go (inr n) = before (ltb k 9) refl n
-
-  pub heading_stops : k < length head → Stops Right s k
-  heading_stops l =
-      header_stops s k
-      (record {
-        word = header h.edition;
-        next = record { edition = h.edition; is = refl };
-        upto = g'.upto;
-        along = g'.along;
-        parts = λ w i. subst (λ x. Parts s x k) (sym i.is) (heading_parts (omega (arith, ap length h.head_is)) i.edition);
-      })
-
-  pub heading_along : length head ≤ k → Headed s (length head) phase
-  heading_along l =
-      record {
-        edition = h.edition;
-        phase_is = h.phase_is;
-        start_is = ap length h.head_is;
-        there =
-            sym (take-append-drop (length head) s)
-            ∙ ap (λ x. x ++ drop (length head) s) (ap (λ n. take n s) all ∙ g.along ∙ take_all k head l ∙ h.head_is);
-      }
-    where
-      all : length head ≡ k
-      all = omega (arith, g.upto_word)
-
-pub heading_same : {s head : List ℕ} {phase : Bool} → Heading s head phase → (r : Bool) → SameIs s 0 head r → r ≡ true
-    → Headed s (length head) phase
-heading_same {s} {head} h r x e =
-    let from_start : 0 + length head ≡ length head = omega arith in
-    record {
-      edition = h.edition;
-      phase_is = h.phase_is;
-      start_is = ap length h.head_is;
-      there = (x.there e).there ∙ ap₂ (λ w i. w ++ drop i s) h.head_is from_start;
-    }
+  pub heading_same : (r : Bool) → SameIs s head r → r ≡ true → Headed s (length head) edition
+  heading_same r x e =
+      record { start_is = ap length head-is; there = x.there e ∙ ap (λ w. w ++ drop (length head) s) head-is }
 
 module _ (s : List ℕ) (z : Bool) (looked : z ≡ eqb (get_or s 9 0) 51) where
-  pub heading_three : z ≡ true → Heading s (header three) true
-  heading_three e = record { edition = three; head_is = refl; phase_is = refl; others = others }
+  pub heading_three : z ≡ true → Heading s three
+  heading_three e = record { others = others }
     where
       others : (d : Edition) → (d ≡ three) ⊎ (get_or s 9 0 ≡ get_or (header d) 9 0 → ⊥)
       others two = inr (λ f. let q : get_or s 9 0 ≡ 51 = eqb-true (get_or s 9 0) 51 (sym looked ∙ e) in omega arith)
       others three = inl refl
 
-  pub heading_two : z ≡ false → Heading s (header two) false
-  heading_two e = record { edition = two; head_is = refl; phase_is = refl; others = others }
+  pub heading_two : z ≡ false → Heading s two
+  heading_two e = record { others = others }
     where
       others : (d : Edition) → (d ≡ two) ⊎ (get_or s 9 0 ≡ get_or (header d) 9 0 → ⊥)
       others two = inl refl

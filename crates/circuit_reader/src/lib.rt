@@ -1,46 +1,38 @@
 // A text walked: whether it is a circuit or where it stops being one, and how many letters it is read as.
 #![tactic(auto)]
 
-ghost use Rattle.std.specs.Prelude.{◌≡◌, ◌&&◌, ◌+◌, ◌≤◌, ◌<◌, min, eqb, length, get_or, drop};
+ghost use Rattle.std.specs.Prelude.{◌≡◌, ◌&&◌, ◌+◌, ◌≤◌, ◌<◌, eqb, length, get_or, drop};
+ghost use Rattle.circuit.specs.Meaning.{edition_of, row};
 ghost use Rattle.circuit_reader.specs.Reading.{Along, MatchIs, LineIs, TailIs, GateIs, DaggerIs, SameIs, Heading, Headed};
 ghost use Rattle.circuit_reader.specs.Reading.{WalkIs};
 
-use exact::both;
+use circuit::Edition;
+use exact::{Refusal, both};
 
+// A right text: where its statements start, and how many letters they are read as.
 #[derive(Clone, Copy)]
-pub enum Walked {
-    Stopped(usize),
-    // where the statements start, and how many letters they are read as
-    Circuit { start: usize, letters: usize },
+pub struct Circuit {
+    pub start: usize,
+    pub letters: usize,
 }
 
+// A statement: the place behind its line, and how many letters it is read as.
 #[derive(Clone, Copy)]
-enum Line {
-    Stopped(usize),
-    // the place behind the line, and how many letters it is read as
-    Is { next: usize, letters: usize },
+struct Line {
+    next: usize,
+    letters: usize,
 }
 
-fn lesser(a: usize, b: usize) -> usize
-    ensures { result ≡ min a b }
+// How far a text goes along with a word.
+fn along(text: &[u8], word: &[u8]) -> usize
+    ensures { Along text.now word.now result }
 {
-    if a < b { a } else { b }
-}
-
-// How far the text goes along with a word from a place on.
-fn along(text: &[u8], at: usize, word: &[u8]) -> usize
-    requires { at ≤ length text.now }
-    ensures { Along (drop at text.now) word.now result }
-{
-    let end = lesser(text.len() - at, word.len());
-    let mut k: usize = 0;
-    while k < end {
-        if text[at + k] != word[k] {
+    for (k, b) in word.iter().enumerate() {
+        if text.get(k) != Some(b) {
             return k;
         }
-        k += 1;
     }
-    k
+    word.len()
 }
 
 // Whether a byte stands at a place.
@@ -48,87 +40,39 @@ fn stands(text: &[u8], at: usize, b: u8) -> bool
     requires { 0 < b }
     ensures { result ≡ eqb (get_or text.now at 0) b }
 {
-    if at >= text.len() {
-        return false;
-    }
-    text[at] == b
+    text.get(at) == Some(&b)
 }
 
 // The line of the one statement that can stand at a place, or where the text leaves it.
-fn matched(text: &[u8], at: usize, line: &[u8], letters: usize) -> Line
+fn matched(text: &[u8], at: usize, line: &[u8], letters: usize) -> Result<Line, Refusal>
     requires { at ≤ length text.now }
     ensures { MatchIs text.now at line.now letters result }
 {
-    let k = along(text, at, line);
-    if k < line.len() {
-        return Line::Stopped(at + k);
+    let next = at + along(&text[at..], line);
+    if next < at + line.len() {
+        return Err(Refusal::Statement(next));
     }
-    Line::Is {
-        next: at + k,
-        letters,
-    }
+    Ok(Line { next, letters })
 }
 
 // The statement at a place, or where the text stops: its first two bytes tell which it can only be.
-fn other_at(text: &[u8], at: usize, phase: bool) -> Line
+fn other_at(text: &[u8], at: usize, edition: Edition) -> Result<Line, Refusal>
     requires { at < length text.now }
-    ensures { LineIs phase text.now at result }
+    ensures { LineIs (row (edition_of edition)).has_phase text.now at result }
 {
-    let b = text[at];
-    if b == b'h' {
-        return matched(text, at, b"h q[0];\n", 1);
+    match text[at] {
+        b'h' => matched(text, at, b"h q[0];\n", 1),
+        b'x' => matched(text, at, b"x q[0];\n", 1),
+        b's' if stands(text, at + 1, b'd') => matched(text, at, b"sdg q[0];\n", 3),
+        b's' => matched(text, at, b"s q[0];\n", 1),
+        b't' if stands(text, at + 1, b'd') => matched(text, at, b"tdg q[0];\n", 4),
+        b't' => matched(text, at, b"t q[0];\n", 1),
+        b'g' if edition.has_phase() => matched(text, at, b"gphase(pi/4);\n", 1),
+        _ => Err(Refusal::Statement(at)),
     }
-    if b == b'x' {
-        return matched(text, at, b"x q[0];\n", 1);
-    }
-    if b == b's' {
-        if stands(text, at + 1, b'd') {
-            return matched(text, at, b"sdg q[0];\n", 3);
-        }
-        return matched(text, at, b"s q[0];\n", 1);
-    }
-    if b == b't' {
-        if stands(text, at + 1, b'd') {
-            return matched(text, at, b"tdg q[0];\n", 4);
-        }
-        return matched(text, at, b"t q[0];\n", 1);
-    }
-    if b != b'g' {
-        return Line::Stopped(at);
-    }
-    if !phase {
-        return Line::Stopped(at);
-    }
-    matched(text, at, b"gphase(pi/4);\n", 1)
 }
 
-// Whether ` q[0];` and LF stand at a place.
-fn tail_at(text: &[u8], at: usize) -> bool
-    requires { at + 7 ≤ length text.now }
-    ensures { TailIs text.now at result }
-{
-    if text[at] != b' ' {
-        return false;
-    }
-    if text[at + 1] != b'q' {
-        return false;
-    }
-    if text[at + 2] != b'[' {
-        return false;
-    }
-    if text[at + 3] != b'0' {
-        return false;
-    }
-    if text[at + 4] != b']' {
-        return false;
-    }
-    if text[at + 5] != b';' {
-        return false;
-    }
-    text[at + 6] == b'\n'
-}
-
-// Whether a gate has the name.
+// Whether a gate has the name. An arm for each: `matches!` branches on which of them it is, and no branch can foresee that.
 fn is_gate(b: u8) -> bool
     ensures { GateIs b result }
 {
@@ -141,115 +85,99 @@ fn is_gate(b: u8) -> bool
     }
 }
 
-// How many letters sdg or tdg is read as, if one stands at a place and is told at once; else 0.
-fn dagger_at(text: &[u8], at: usize) -> usize
-    requires { at + 10 ≤ length text.now }
-    ensures { DaggerIs text.now at result }
+// Whether a text begins with ` q[0];` and LF.
+fn is_tail(text: &[u8]) -> bool
+    ensures { TailIs text.now result }
 {
-    if text[at + 1] != b'd' {
-        return 0;
+    matches!(text, [b' ', b'q', b'[', b'0', b']', b';', b'\n', ..])
+}
+
+// How many letters sdg or tdg is read as, if a text begins with one.
+fn dagger(text: &[u8]) -> Option<usize>
+    ensures { DaggerIs text.now result }
+{
+    match text {
+        [b, b'd', b'g', tail @ ..] if is_tail(tail) => match b {
+            b's' => Some(3),
+            b't' => Some(4),
+            _ => None,
+        },
+        _ => None,
     }
-    if text[at + 2] != b'g' {
-        return 0;
-    }
-    if !tail_at(text, at + 3) {
-        return 0;
-    }
-    if text[at] == b's' {
-        return 3;
-    }
-    if text[at] == b't' { 4 } else { 0 }
 }
 
 // The statement at a place; gates are told at once.
-fn line_at(text: &[u8], at: usize, phase: bool) -> Line
+fn line_at(text: &[u8], at: usize, edition: Edition) -> Result<Line, Refusal>
     requires { at < length text.now }
-    ensures { LineIs phase text.now at result }
+    ensures { LineIs (row (edition_of edition)).has_phase text.now at result }
 {
-    let left = text.len() - at;
-    if left >= 8 {
-        if is_gate(text[at]) {
-            if tail_at(text, at + 1) {
-                return Line::Is {
-                    next: at + 8,
-                    letters: 1,
-                };
-            }
-        }
+    if is_gate(text[at]) && is_tail(&text[at + 1..]) {
+        return Ok(Line {
+            next: at + 8,
+            letters: 1,
+        });
     }
-    if left >= 10 {
-        let n = dagger_at(text, at);
-        if n > 0 {
-            return Line::Is {
-                next: at + 10,
-                letters: n,
-            };
-        }
+    if let Some(letters) = dagger(&text[at..]) {
+        return Ok(Line {
+            next: at + 10,
+            letters,
+        });
     }
-    other_at(text, at, phase)
+    other_at(text, at, edition)
 }
 
-fn lines_from(text: &[u8], start: usize, phase: bool) -> Walked
-    requires { Headed text.now start phase }
+fn lines_from(text: &[u8], start: usize, edition: Edition) -> Result<Circuit, Refusal>
+    requires { Headed text.now start (edition_of edition) }
     ensures { WalkIs text.now result }
 {
     let mut at = start;
     let mut letters: usize = 0;
+    // no `for`: a statement's line has its own length
     while at < text.len() {
-        match line_at(text, at, phase) {
-            Line::Stopped(place) => {
-                return Walked::Stopped(place);
-            }
-            Line::Is { next, letters: n } => {
-                at = next;
-                letters += n;
-            }
-        }
+        let line = line_at(text, at, edition)?;
+        at = line.next;
+        letters += line.letters;
     }
-    Walked::Circuit { start, letters }
+    Ok(Circuit { start, letters })
 }
 
-// Whether a word stands at a place: every byte is compared, so that many go at once.
-fn same_at(text: &[u8], at: usize, word: &[u8]) -> bool
-    requires { at + length word.now ≤ length text.now }
-    ensures { SameIs text.now at word.now result }
+// Whether a text begins with a word: every byte is compared, so that many go at once.
+fn begins(text: &[u8], word: &[u8]) -> bool
+    requires { length word.now ≤ length text.now }
+    ensures { SameIs text.now word.now result }
 {
     let mut same = true;
-    let mut k: usize = 0;
-    while k < word.len() {
-        same = both(same, text[at + k] == word[k]);
-        k += 1;
+    for (k, b) in word.iter().enumerate() {
+        same = both(same, text[k] == *b);
     }
     same
 }
 
 // The text held to the one header that it can begin with.
-fn walk_by(text: &[u8], head: &[u8], phase: bool) -> Walked
-    requires { Heading text.now head.now phase }
+fn walk_by(text: &[u8], edition: Edition) -> Result<Circuit, Refusal>
+    requires { Heading text.now (edition_of edition) }
     ensures { WalkIs text.now result }
 {
+    let head = edition.header();
     let n = head.len();
-    if n <= text.len() {
-        if same_at(text, 0, head) {
-            return lines_from(text, n, phase);
-        }
+    if n <= text.len() && begins(text, head) {
+        return lines_from(text, n, edition);
     }
     // a comparison of every byte does not tell the place
-    let k = along(text, 0, head);
+    let k = along(text, head);
     if k < n {
-        return Walked::Stopped(k);
+        return Err(Refusal::Statement(k));
     }
-    lines_from(text, n, phase)
+    lines_from(text, n, edition)
 }
 
 // The header's tenth byte tells the edition that it can only be.
-pub fn walk(text: &[u8]) -> Walked
+pub fn walk(text: &[u8]) -> Result<Circuit, Refusal>
     ensures { WalkIs text.now result }
 {
     if stands(text, 9, b'3') {
-        let head = circuit::HEADER_3;
-        return walk_by(text, &head, true);
+        walk_by(text, Edition::Three)
+    } else {
+        walk_by(text, Edition::Two)
     }
-    let head = circuit::HEADER_2;
-    walk_by(text, &head, false)
 }

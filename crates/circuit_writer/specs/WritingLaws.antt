@@ -1,40 +1,42 @@
 -- The laws by which the writer's functions keep their promises: a line more measured, a line more put. Assumes nothing.
-use Rattle.std.specs.Prelude.{◌≡◌, refl, Bool, true, false, cond, List, [], ◌∷◌, ◌++◌, ℕ, zero, suc, ◌+◌, ◌*◌, ◌<◌, ◌≤◌, eqb, ltb, length, take, drop, set, get_or}
-use Rattle.std.proofs.Common.{sym, ◌∙◌, ap, ap₂, subst, add-one, arith, eqb-true, ltb-true, ltb-false, lt-ltb, le-ltb, eq-eqb, ne_eqb, Fits, length-append, length-take-le, take-suc, take_all, drop-cons, get_or-take}
+use Rattle.std.specs.Prelude.{◌≡◌, refl, Bool, true, false, cond, List, [], ◌∷◌, ◌++◌, ℕ, zero, suc, ◌+◌, ◌-◌, ◌*◌, ◌<◌, ◌≤◌, eqb, ltb, length, take, set, get_or, Option, Some, None, Err}
+use Rattle.std.proofs.Common.{sym, ◌∙◌, ap, ap₂, subst, add-one, append-nil, append_assoc, arith, eqb-true, ltb-true, ltb-false, lt-ltb, le-ltb, eq-eqb, ne_eqb, Fits, length-append, length-take-le, take-suc, take_all, get_or-take}
 use Rattle.std.proofs.lemmas.Bool.{eqb-false}
+use Rattle.std.proofs.lemmas.Option.{none-some, same_Some}
 use Rattle.std.specs.Int.{w8, w64}
 use Rattle.std.proofs.Math.ListN.{get_or-append}
-use Rattle.std.proofs.Math.Seq.{take-length, drop-length, get_or-append_seam}
+use Rattle.std.proofs.Math.Seq.{get_or-append_seam}
 use Rattle.exact.specs.Meaning.Word.{Letter, I, H, S, X, W, T', byte, bytes, IsLetter, FirstOutside}
+use Rattle.exact.specs.declared.Refusal.{Refusal}
 use Rattle.exact.specs.Meaning.Text.{ascii}
 use Rattle.exact.specs.Cases.Letters.{letter_of, letters_of}
 use Rattle.exact.proofs.Cases.Letters.{letter_of_byte, letters_of_append, letters_of_length, letter_back, is_letter}
 use Rattle.lent.specs.Written.{Written as Puts, written_both, written_byte, written_length}
 use Rattle.circuit.specs.Meaning.{lines, statement_of, circuit}
 use Rattle.circuit.proofs.Lines.{lines_append, cons_head, cons_tail, bytes_append}
-use Rattle.circuit_writer.specs.Writing.{Spells, size_of, size, SizeIs, letter, no_letter, Measures, PhaseIs, past_phase}
+use Rattle.circuit_writer.specs.Writing.{Spells, size_of, size, SizeIs, letter, no_letter, Measures, PhaseIs, past_phase, MeasureIs}
 
 -- ---- the size of a line
-pub size_H : {b : ℕ} → b ≡ 72 → SizeIs b 8
+pub size_H : {b : ℕ} → b ≡ 72 → SizeIs b (Some 8)
 size_H e = letter H (sym e) refl
 
-pub size_S : {b : ℕ} → b ≡ 83 → SizeIs b 8
+pub size_S : {b : ℕ} → b ≡ 83 → SizeIs b (Some 8)
 size_S e = letter S (sym e) refl
 
-pub size_T : {b : ℕ} → b ≡ 84 → SizeIs b 8
+pub size_T : {b : ℕ} → b ≡ 84 → SizeIs b (Some 8)
 size_T e = letter T' (sym e) refl
 
-pub size_X : {b : ℕ} → b ≡ 88 → SizeIs b 8
+pub size_X : {b : ℕ} → b ≡ 88 → SizeIs b (Some 8)
 size_X e = letter X (sym e) refl
 
-pub size_W : {b : ℕ} → b ≡ 87 → SizeIs b 14
+pub size_W : {b : ℕ} → b ≡ 87 → SizeIs b (Some 14)
 size_W e = letter W (sym e) refl
 
-pub size_I : {b : ℕ} → b ≡ 73 → SizeIs b 0
+pub size_I : {b : ℕ} → b ≡ 73 → SizeIs b (Some 0)
 size_I e = letter I (sym e) refl
 
 module _ {b : ℕ} (h : b ≡ 72 → ⊥) (s : b ≡ 83 → ⊥) (t : b ≡ 84 → ⊥) (x : b ≡ 88 → ⊥) (w : b ≡ 87 → ⊥) (i : b ≡ 73 → ⊥) where
-  pub size_none : SizeIs b 255
+  pub size_none : SizeIs b None
   size_none = no_letter (λ n. go n.letter_there n.is) refl
     where
       go : (l : Letter) → byte l ≡ b → ⊥
@@ -57,18 +59,9 @@ module _ (p i b : ℕ) (l : i ≤ p) where
   past_behind n = rw (le-ltb p i l, ne_eqb b 87 n)
 
 -- ---- a letter's line
-one_more : {l : List ℕ} {at : ℕ} {t m : List ℕ} {i : ℕ} → Puts l at t m i → (j b : ℕ) → i ≡ j → Puts l at (t ++ (b ∷ [])) (set m j b) (j + 1)
-one_more {l} {at} {t} {m} {i} p j b e = written_both (subst (Puts l at t m) e p) (written_byte m j b)
-
-pub gate_put : (l : List ℕ) (at n : ℕ)
-    → Puts l at (n ∷ ascii " q[0];\n")
-    (set (set (set (set (set (set (set (set l at n) (at + 1) 32) (at + 2) 113) (at + 3) 91) (at + 4) 48) (at + 5) 93) (at + 6) 59) (at + 7) 10)
-    (at + 8)
-gate_put l at n =
-    let four = one_more (one_more (one_more (written_byte l at n) (at + 1) 32 refl) (at + 2) 113 (omega arith)) (at + 3) 91 (omega arith) in
-    let six = one_more (one_more four (at + 4) 48 (omega arith)) (at + 5) 93 (omega arith) in
-    let eight = one_more (one_more six (at + 6) 59 (omega arith)) (at + 7) 10 (omega arith) in
-    subst (Puts l at (n ∷ ascii " q[0];\n") _) (omega arith) eight
+pub gate_put : (l : List ℕ) (at n : ℕ) {m : List ℕ} {i : ℕ} → Puts (set l at n) (at + 1) (ascii " q[0];\n") m i
+    → Puts l at (n ∷ ascii " q[0];\n") m i
+gate_put l at n p = written_both (written_byte l at n) p
 
 -- I has no line
 pub line_I : {b : ℕ} (l : List ℕ) (at : ℕ) → b ≡ 73 → Puts l at (lines (statement_of (letter_of b))) l at
@@ -204,8 +197,21 @@ spells_at [] s i l = absurd (omega arith)
 spells_at (b ∷ w) s zero l = is_letter (cons_head s.is)
 spells_at (b ∷ w) s (suc i) l = spells_at w (record { is = cons_tail s.is }) i (omega arith)
 
-no_size : (l : Letter) → size_of l ≡ 255 → ⊥
-no_size l e = omega (arith, size_of_most l)
+-- what was measured of a byte is a letter's size, or nothing
+module _ {b : ℕ} {r : Option ℕ} (s : SizeIs b r) where
+  sized : (m : ℕ) → r ≡ Some m → (l : Letter) × ((byte l ≡ b) × (m ≡ size_of l))
+  sized m e = go s
+    where
+      go : SizeIs b r → (l : Letter) × ((byte l ≡ b) × (m ≡ size_of l))
+      go (letter l f g) = (l, (f, same_Some m (size_of l) (sym e ∙ g)))
+      go (no_letter o g) = absurd (none-some m (sym g ∙ e))
+
+  unsized : r ≡ None → IsLetter b → ⊥
+  unsized e = go s
+    where
+      go : SizeIs b r → IsLetter b → ⊥
+      go (letter l f g) = absurd (none-some (size_of l) (sym e ∙ g))
+      go (no_letter o g) = o
 
 -- ---- the first i letters are measured
 pub record Measuring (w : List ℕ) (n p i : ℕ) : Type 0 where
@@ -222,114 +228,112 @@ measuring_none w =
     }
 
 module _ {w : List ℕ} {n p i : ℕ} (h : Measuring w n p i) where
-  measuring_few : {m : ℕ} → length w ≤ 4096 → SizeIs (get_or w i 0) m → n + m < 65536
-  measuring_few {m} l s =
-      let few = size_most (letters_of (take i w)) in
-      omega (arith, few, h.measures.is, letters_of_length (take i w), length-take-le i w h.upto, most s)
-    where
-      most : SizeIs (get_or w i 0) m → m ≤ 255
-      most (letter l e f) = omega (arith, size_of_most l)
-      most (no_letter o f) = omega arith
-
-  pub measuring_fits : {m : ℕ} → length w ≤ 4096 → SizeIs (get_or w i 0) m → Fits w64 (n + m)
-  measuring_fits l s = record { fits = omega (arith, measuring_few l s) }
-
   pub measuring_phase : p ≤ i
   measuring_phase = omega (arith, h.phase_is.upto, length-take-le i w h.upto)
 
-  pub outside_at : {m : ℕ} → i < length w → SizeIs (get_or w i 0) m → m ≡ 255 → FirstOutside w i
-  outside_at l (letter x e f) g = absurd (no_size x (sym f ∙ g))
-  outside_at l (no_letter o f) g = record { there = l; outside = o; before = before }
-    where
-      before : (j : ℕ) → j < i → IsLetter (get_or w j 0)
-      before j k =
-          subst IsLetter (get_or-take i w j 0 k)
-          (spells_at (take i w) h.measures.spells j (omega (arith, length-take-le i w h.upto)))
+  module _ {r : Option ℕ} (s : SizeIs (get_or w i 0) r) where
+    pub outside_at : i < length w → r ≡ None → FirstOutside w i
+    outside_at l g = record { there = l; outside = unsized s g; before = before }
+      where
+        before : (j : ℕ) → j < i → IsLetter (get_or w j 0)
+        before j k =
+            subst IsLetter (get_or-take i w j 0 k)
+            (spells_at (take i w) h.measures.spells j (omega (arith, length-take-le i w h.upto)))
 
-  pub measuring_more : {m q : ℕ} → i < length w → SizeIs (get_or w i 0) m → (m ≡ 255 → ⊥) → q ≡ past_phase p i (get_or w i 0)
-      → Measuring w (n + m) q (i + 1)
-  measuring_more {m} {q} l s o e =
-      record {
-        upto = omega arith;
-        measures = subst (λ v. Measures v (n + m)) one_more (measures_more (take i w) (get_or w i 0) n m h.measures (sized_letter s) (is_size s));
-        phase_is =
-            subst (λ v. PhaseIs v q) one_more
-            (subst (PhaseIs (take i w ++ (get_or w i 0 ∷ []))) (sym (e ∙ ap (λ k. past_phase p k (get_or w i 0)) (sym long)))
-            (phase_more (take i w) (get_or w i 0) p h.phase_is));
-      }
-    where
-      long : length (take i w) ≡ i
-      long = length-take-le i w h.upto
+    module _ (m : ℕ) (e : r ≡ Some m) where
+      abbrev there : (l : Letter) × ((byte l ≡ get_or w i 0) × (m ≡ size_of l))
+      there = sized s m e
 
-      one_more : take i w ++ (get_or w i 0 ∷ []) ≡ take (i + 1) w
-      one_more = sym (ap (λ k. take k w) (add-one i) ∙ take-suc w i 0 l)
+      pub measuring_fits : length w ≤ 4096 → Fits w64 (n + m)
+      measuring_fits l =
+          let few = size_most (letters_of (take i w)) in
+          record {
+            fits =
+                omega (arith, few, h.measures.is, letters_of_length (take i w), length-take-le i w h.upto, there.1.1, size_of_most there.0);
+          }
 
-      sized_letter : SizeIs (get_or w i 0) m → IsLetter (get_or w i 0)
-      sized_letter (letter x f g) = record { letter_there = x; is = f }
-      sized_letter (no_letter z g) = absurd (o g)
+      pub measuring_more : {q : ℕ} → i < length w → q ≡ past_phase p i (get_or w i 0) → Measuring w (n + m) q (i + 1)
+      measuring_more {q} l f =
+          record {
+            upto = omega arith;
+            measures =
+                subst (λ v. Measures v (n + m)) one_more
+                (measures_more (take i w) (get_or w i 0) n m h.measures (record { letter_there = there.0; is = there.1.0 }) is_size);
+            phase_is =
+                subst (λ v. PhaseIs v q) one_more
+                (subst (PhaseIs (take i w ++ (get_or w i 0 ∷ []))) (sym (f ∙ ap (λ k. past_phase p k (get_or w i 0)) (sym long)))
+                (phase_more (take i w) (get_or w i 0) p h.phase_is));
+          }
+        where
+          long : length (take i w) ≡ i
+          long = length-take-le i w h.upto
 
-      is_size : SizeIs (get_or w i 0) m → m ≡ size_of (letter_of (get_or w i 0))
-      is_size (letter x f g) = g ∙ ap size_of (sym (letter_of_byte x) ∙ ap letter_of f)
-      is_size (no_letter z g) = absurd (o g)
+          one_more : take i w ++ (get_or w i 0 ∷ []) ≡ take (i + 1) w
+          one_more = sym (ap (λ k. take k w) (add-one i) ∙ take-suc w i 0 l)
+
+          is_size : m ≡ size_of (letter_of (get_or w i 0))
+          is_size = there.1.1 ∙ ap size_of (sym (letter_of_byte there.0) ∙ ap letter_of there.1.0)
+
+  -- a byte that is no letter
+  pub measuring_stops : {r : Option ℕ} → SizeIs (get_or w i 0) r → i < length w → r ≡ None → MeasureIs w (Err (Refusal.Letter i))
+  measuring_stops s l e = outside_at s l e
 
   pub measured : length w ≤ i → Measures w n × PhaseIs w p
   measured l =
       (subst (λ v. Measures v n) (take_all i w l) h.measures, subst (λ v. PhaseIs v p) (take_all i w l) h.phase_is)
 
--- ---- the lines of the letters from place i on are put
-pub record Lining (old : List ℕ) (start : ℕ) (w buf : List ℕ) (at i : ℕ) : Type 0 where
+-- ---- the lines of the letters behind `rest` are put
+pub record Lining (old : List ℕ) (start : ℕ) (w buf : List ℕ) (at : ℕ) (rest : List ℕ) : Type 0 where
   pub spells : Spells w
-  pub upto : i ≤ length w
-  pub put : Puts old start (lines (circuit (letters_of (drop i w)))) buf at
-  pub room : at + size (letters_of (take i w)) ≤ length buf
+  pub done : List ℕ
+  pub parted : w ≡ rest ++ done
+  pub put : Puts old start (lines (circuit (letters_of done))) buf at
+  pub room : at + size (letters_of rest) ≤ length buf
 
-pub lining_none : (old : List ℕ) (start : ℕ) (w : List ℕ) → Spells w → start + size (letters_of w) ≤ length old
-    → Lining old start w old start (length w)
-lining_none old start w s r =
+pub lining_none : (old : List ℕ) (start : ℕ) (w rest : List ℕ) → rest ≡ w → Spells w → start + size (letters_of w) ≤ length old
+    → Lining old start w old start rest
+lining_none old start w rest e s r =
     record {
       spells = s;
-      upto = omega arith;
-      put = rw (drop-length w) (record { is = refl; behind = omega arith });
-      room = rw (take-length w) r;
+      done = [];
+      parted = sym (append-nil rest ∙ e);
+      put = record { is = refl; behind = omega arith };
+      room = subst (λ v. start + size (letters_of v) ≤ length old) (sym e) r;
     }
 
-module _ {old : List ℕ} {start : ℕ} {w buf : List ℕ} {at i : ℕ} (h : Lining old start w buf at i) (j : ℕ) (j-is : i ≡ suc j) where
-  abbrev b : ℕ
-  b = get_or w j 0
+module _ {old : List ℕ} {start : ℕ} {w buf : List ℕ} {at : ℕ} {rest : List ℕ} (h : Lining old start w buf at rest) (less : List ℕ) (b : ℕ)
+    (e : rest ≡ less ++ (b ∷ [])) where
+  parted_so : w ≡ less ++ (b ∷ h.done)
+  parted_so = h.parted ∙ ap (λ v. v ++ h.done) e ∙ append_assoc less (b ∷ []) h.done
 
   pub lining_letter : IsLetter b
-  lining_letter = spells_at w h.spells j (omega (arith, h.upto))
+  lining_letter =
+      subst IsLetter (ap (λ v. get_or v (length less) 0) parted_so ∙ get_or-append_seam less b h.done 0)
+      (spells_at w h.spells (length less) (omega (arith, ap length parted_so, length-append less (b ∷ h.done))))
 
-  split : size (letters_of (take i w)) ≡ size_of (letter_of b) + size (letters_of (take j w))
+  split : size (letters_of rest) ≡ size_of (letter_of b) + size (letters_of less)
   split =
-      ap (λ k. size (letters_of (take k w))) j-is
-      ∙ ap (λ v. size (letters_of v)) (take-suc w j 0 (omega (arith, h.upto)))
-      ∙ ap size (letters_of_append (take j w) (b ∷ []))
-      ∙ size_append (letters_of (take j w)) (letter_of b ∷ [])
-      ∙ ap (λ k. k + size (letters_of (take j w))) (size_one (letter_of b))
+      ap (λ v. size (letters_of v)) e
+      ∙ ap size (letters_of_append less (b ∷ []))
+      ∙ size_append (letters_of less) (letter_of b ∷ [])
+      ∙ ap (λ k. k + size (letters_of less)) (size_one (letter_of b))
 
   pub lining_room : at + size_of (letter_of b) ≤ length buf
   lining_room = omega (arith, split, h.room)
 
-  pub lining_more : (new : List ℕ) (next : ℕ) → Puts buf at (lines (statement_of (letter_of b))) new next → Lining old start w new next j
+  pub lining_more : (new : List ℕ) (next : ℕ) → Puts buf at (lines (statement_of (letter_of b))) new next → Lining old start w new next less
   lining_more new next p =
       record {
         spells = h.spells;
-        upto = omega (arith, h.upto);
-        put = subst (λ t. Puts old start t new next) joined (written_both h.put p);
+        done = b ∷ h.done;
+        parted = parted_so;
+        put =
+            subst (λ t. Puts old start t new next) (sym (lines_append (circuit (letters_of h.done)) (statement_of (letter_of b))))
+            (written_both h.put p);
         room = omega (arith, split, h.room, written_length p, p.behind);
       }
-    where
-      joined : lines (circuit (letters_of (drop i w))) ++ lines (statement_of (letter_of b)) ≡ lines (circuit (letters_of (drop j w)))
-      joined =
-          ap (λ k. lines (circuit (letters_of (drop k w))) ++ lines (statement_of (letter_of b))) j-is
-          ∙ sym (lines_append (circuit (letters_of (drop (suc j) w))) (statement_of (letter_of b)))
-          ∙ ap (λ v. lines (circuit (letters_of v))) (sym (drop-cons w j 0 (omega (arith, h.upto))))
 
-pub lined : {old : List ℕ} {start : ℕ} {w buf : List ℕ} {at i : ℕ} → Lining old start w buf at i → i ≤ 0
+pub lined : {old : List ℕ} {start : ℕ} {w buf : List ℕ} {at : ℕ} {rest : List ℕ} → Lining old start w buf at rest → rest ≡ []
     → Puts old start (lines (circuit (letters_of w))) buf at
-lined {old} {start} {w} {buf} {at} {i} h l =
-    subst (λ k. Puts old start (lines (circuit (letters_of (drop k w)))) buf at) (le_zero i l) h.put
-  where
-    le_zero : (i : ℕ) → i ≤ 0 → i ≡ 0
-    le_zero i l = omega arith
+lined {old} {start} {w} {buf} {at} h e =
+    subst (λ v. Puts old start (lines (circuit (letters_of v))) buf at) (sym (h.parted ∙ ap (λ v. v ++ h.done) e)) h.put

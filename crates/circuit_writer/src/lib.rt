@@ -9,28 +9,27 @@ ghost use Rattle.lent.specs.Written.{Written as Puts};
 ghost use Rattle.circuit.specs.Meaning.{statement_of, circuit, lines};
 ghost use Rattle.circuit_writer.specs.Writing.{Spells, SizeIs, MeasureIs, past_phase, size_of};
 
-// No letter: more than any line has.
-const NONE: usize = 255;
+use exact::Refusal;
 
+// A word of letters: the bytes of its lines, and the place of the first W or the word's length.
 #[derive(Clone, Copy)]
-pub enum Measured {
-    Outside(usize),
-    // the bytes of the lines, and the place of the first W or the word's length
-    Word { lines: usize, phase: usize },
+pub struct Measured {
+    pub lines: usize,
+    pub phase: usize,
 }
 
 // The bytes of a letter's line.
-fn line_size(b: u8) -> usize
+fn line_size(b: u8) -> Option<usize>
     ensures { SizeIs b result }
 {
     match b {
-        b'H' => 8,
-        b'S' => 8,
-        b'T' => 8,
-        b'X' => 8,
-        b'W' => 14,
-        b'I' => 0,
-        _ => NONE,
+        b'H' => Some(8),
+        b'S' => Some(8),
+        b'T' => Some(8),
+        b'X' => Some(8),
+        b'W' => Some(14),
+        b'I' => Some(0),
+        _ => None,
     }
 }
 
@@ -46,24 +45,17 @@ fn past(phase: usize, i: usize, b: u8) -> usize
     if b == b'W' { i } else { i + 1 }
 }
 
-pub fn measure(word: &[u8]) -> Measured
+pub fn measure(word: &[u8]) -> Result<Measured, Refusal>
     requires { length word.now ≤ 4096 }
     ensures { MeasureIs word.now result }
 {
     let mut lines: usize = 0;
     let mut phase: usize = 0;
-    let mut i: usize = 0;
-    while i < word.len() {
-        let b = word[i];
-        let n = line_size(b);
-        if n == NONE {
-            return Measured::Outside(i);
-        }
-        lines += n;
-        phase = past(phase, i, b);
-        i += 1;
+    for (i, b) in word.iter().enumerate() {
+        lines += line_size(*b).ok_or(Refusal::Letter(i))?;
+        phase = past(phase, i, *b);
     }
-    Measured::Word { lines, phase }
+    Ok(Measured { lines, phase })
 }
 
 // The line of a gate with a name of one letter.
@@ -72,14 +64,7 @@ fn put_gate(buf: &mut [u8], at: usize, name: u8) -> usize
     ensures { Puts buf.old at (name ∷ ascii " q[0];\n") buf.new result }
 {
     buf[at] = name;
-    buf[at + 1] = b' ';
-    buf[at + 2] = b'q';
-    buf[at + 3] = b'[';
-    buf[at + 4] = b'0';
-    buf[at + 5] = b']';
-    buf[at + 6] = b';';
-    buf[at + 7] = b'\n';
-    at + 8
+    lent::put(buf, at + 1, b" q[0];\n")
 }
 
 // The line of a letter; none for I.
@@ -104,10 +89,8 @@ pub fn put_lines(buf: &mut [u8], start: usize, word: &[u8]) -> usize
     ensures { Puts buf.old start (lines (circuit (letters_of word.now))) buf.new result }
 {
     let mut at = start;
-    let mut i = word.len();
-    while i > 0 {
-        i -= 1;
-        at = put_line(buf, at, word[i]);
+    for b in word.iter().rev() {
+        at = put_line(buf, at, *b);
     }
     at
 }

@@ -18,8 +18,7 @@ use Rattle.clifford.specs.declared.Clifford.{Clifford}
 use Rattle.clifford.specs.declared.Coset.{Coset}
 use Rattle.synthesis_of_clifford_t.specs.Meaning.{Synthesis, SynthesiseOutcome}
 use Rattle.circuit.specs.Meaning.{Edition}
-use Rattle.qasm.specs.Meaning.{WriteOutcome, ReadOutcome}
-use Rattle.qasm.specs.declared.Written.{Written as Converted}
+use Rattle.qasm.specs.Meaning.{Written as Converted, WriteOutcome, ReadOutcome}
 use Rattle.view.specs.Meaning.Outcome.{Answer, ViewOutcome}
 use Rattle.rotation.specs.Meaning.{Answer as Rotated, Count, RotationOutcome, CountOutcome}
 use Rattle.clifford.specs.declared.Four.{Four}
@@ -113,16 +112,17 @@ pub writes_as : (Answer : List Letter → List Letter → Type 0) (w old new : L
     → WordOutcome Answer w old j new → r ≡ j.refusal → out ≡ counts j → Writes Answer w old (r, (out, new))
 writes_as Answer w old new j r out o f g = record { job = lent j new; outcome = o; is = λ i. (f i, (g i, new)) }
 
-converts : (Job : Converted → List ℕ → Type 0) (new : List ℕ) (j : Converted) (out : List ℕ) → Job j new → out ≡ counts_in j
-    → Converts Job (j.refusal, (out, new))
-converts Job new j out o e = record { job = lent j new; outcome = o; is = λ i. (j.refusal, (e i, new)) }
+converts : (Job : Converted → List ℕ → Type 0) (new : List ℕ) (j : Converted) (r : ℕ) (out : List ℕ) → Job j new → r ≡ j.refusal
+    → out ≡ counts_in j → Converts Job (r, (out, new))
+converts Job new j r out o f g = record { job = lent j new; outcome = o; is = λ i. (f i, (g i, new)) }
 
-module _ (old new : List ℕ) (j : Converted) (out : List ℕ) where
-  pub circuits : (e : Edition) (w : List ℕ) → WriteOutcome e w old j new → out ≡ counts_in j → Converts (WriteOutcome e w old) (j.refusal, (out, new))
-  circuits e w = converts (WriteOutcome e w old) new j out
+module _ (old new : List ℕ) (j : Converted) (r : ℕ) (out : List ℕ) where
+  pub circuits : (e : Edition) (w : List ℕ) → WriteOutcome e w old j new → r ≡ j.refusal → out ≡ counts_in j
+      → Converts (WriteOutcome e w old) (r, (out, new))
+  circuits e w = converts (WriteOutcome e w old) new j r out
 
-  pub letters_read : (t : List ℕ) → ReadOutcome t old j new → out ≡ counts_in j → Converts (ReadOutcome t old) (j.refusal, (out, new))
-  letters_read t = converts (ReadOutcome t old) new j out
+  pub letters_read : (t : List ℕ) → ReadOutcome t old j new → r ≡ j.refusal → out ≡ counts_in j → Converts (ReadOutcome t old) (r, (out, new))
+  letters_read t = converts (ReadOutcome t old) new j r out
 
 -- ---- Cliffords
 argument_is : (x : List ℤ) (f : Four) → f ≡ listed x → reduced f.a f.b f.c f.d ≡ argument x

@@ -226,24 +226,21 @@ pub fn dunrossel_qasm2_write(word: &[u8], buf: &mut [u8], out: &mut [u64; 2]) ->
     ensures { Converts (WriteOutcome two word.now buf.old) (result, (out.new, buf.new)) }
 {
     let answer = qasm::write(Edition::Two, word, buf);
-    handed::put_pair(answer, out);
-    answer.refusal
+    handed::put_pair(answer, out)
 }
 
 pub fn dunrossel_qasm3_write(word: &[u8], buf: &mut [u8], out: &mut [u64; 2]) -> u8
     ensures { Converts (WriteOutcome three word.now buf.old) (result, (out.new, buf.new)) }
 {
     let answer = qasm::write(Edition::Three, word, buf);
-    handed::put_pair(answer, out);
-    answer.refusal
+    handed::put_pair(answer, out)
 }
 
 pub fn dunrossel_qasm_read(text: &[u8], buf: &mut [u8], out: &mut [u64; 2]) -> u8
     ensures { Converts (ReadOutcome text.now buf.old) (result, (out.new, buf.new)) }
 {
     let answer = qasm::read(text, buf);
-    handed::put_pair(answer, out);
-    answer.refusal
+    handed::put_pair(answer, out)
 }
 
 // The answer to a right record, by job 4. It stays a call: where the compiler sees whose memory the word is in, it copies it by memcpy, and the

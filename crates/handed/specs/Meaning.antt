@@ -8,7 +8,7 @@ use Rattle.clifford.specs.Meaning.{axis_number}
 use Rattle.clifford.specs.declared.Clifford.{Clifford}
 use Rattle.clifford.specs.declared.Coset.{Coset}
 use Rattle.synthesis_of_clifford_t.specs.Meaning.{Synthesis}
-use Rattle.qasm.specs.declared.Written.{Written as Converted}
+use Rattle.qasm.specs.Meaning.{Written as Converted}
 use Rattle.view.specs.declared.matrix.View.{View}
 use Rattle.root_two.specs.declared.Root.{Root}
 use Rattle.rotation.specs.declared.Rotation.{Rotation}

@@ -5,9 +5,11 @@ ghost use Rattle.std.specs.Prelude.{◌≡◌};
 ghost use Rattle.handed.specs.Meaning.{z_of, w_of, triple_of, ten, eight_of, nineteen_of, counts, counts_of, steps_of, counts_in, four_of, five_of};
 ghost use Rattle.handed.specs.Numbers.{Wide};
 ghost use Rattle.normal_form.specs.Meaning.{written};
+ghost use Rattle.qasm.specs.Meaning.{written as converted};
 ghost use Rattle.synthesis_of_clifford_t.specs.Meaning.{synthesised};
 
 use clifford::{Clifford, Coset};
+use exact::Refusal;
 use normal_form::Counts;
 use ring::{Triple, ZOmega};
 use rotation::Rotation;
@@ -149,8 +151,19 @@ pub fn put_steps(answer: Spelt, out: &mut [u64; 4])
     ];
 }
 
-pub fn put_pair(answer: qasm::Written, out: &mut [u64; 2])
-    ensures { out.new ≡ counts_in answer }
+// The place and the bytes are put, and the refusal's number is returned.
+pub fn put_pair(answer: Result<usize, Refusal>, out: &mut [u64; 2]) -> u8
+    ensures refusal { result ≡ (converted answer).refusal }
+    ensures pair { out.new ≡ counts_in (converted answer) }
 {
-    *out = [answer.place as u64, answer.bytes as u64];
+    match answer {
+        Ok(bytes) => {
+            *out = [0, bytes as u64];
+            exact::ACCEPTED
+        }
+        Err(refusal) => {
+            *out = [refusal.place() as u64, 0];
+            refusal.number()
+        }
+    }
 }

@@ -4,15 +4,13 @@
 ghost use Rattle.std.specs.Prelude.{◌+◌, ◌≤◌, length};
 ghost use Rattle.lent.specs.Written.{Written};
 
-// Returns the place behind what was put.
+// Returns the place behind what was put. Not by `copy_from_slice`, which is a memcpy: the archive for C is to need memset alone.
 pub fn put(out: &mut [u8], at: usize, src: &[u8]) -> usize
     requires { at + length src.now ≤ length out.old }
     ensures { Written out.old at src.now out.new result }
 {
-    let mut i = 0;
-    while i < src.len() {
-        out[at + i] = src[i];
-        i += 1;
+    for (i, b) in src.iter().enumerate() {
+        out[at + i] = *b;
     }
-    at + i
+    at + src.len()
 }

@@ -1,25 +1,29 @@
 -- What the writer and the reader of circuits promise (docs/SCOPE.md, Jobs): their refusals in order, or the answer in the lent bytes.
-use Rattle.std.specs.Prelude.{◌≡◌, Bool, true, false, List, ℕ, length}
+use Rattle.std.specs.Prelude.{◌≡◌, Bool, true, false, List, ℕ, length, Result}
+use Rattle.exact.specs.declared.Refusal as Refused
+use Rattle.exact.specs.Meaning.Handed.{handed}
 use Rattle.exact.specs.Meaning.Word.{Letter, bytes, Spelled}
 use Rattle.exact.specs.Meaning.Limits.{no_refusal}
 use Rattle.exact.specs.Meaning.Outcome.{Refusal, Refusals, none, ◌then◌, Outcome}
 use Rattle.exact.specs.Meaning.Lent.{lent, untouched, Writes}
 use Rattle.exact.specs.Meaning.Refusals.{long, long_answer, letter, phase, statement, room}
-use Rattle.circuit.specs.Meaning.{Edition, two, three, row, Statement, text, Right, circuit, Reads}
-use Rattle.qasm.specs.declared.Edition as Declared
-use Rattle.qasm.specs.declared.Edition.TheVariants.{Two, Three}
-use Rattle.qasm.specs.declared.Written.{Written}
+use Rattle.circuit.specs.Meaning.{Edition, row, Statement, text, Right, circuit, Reads}
 
--- ---- what is handed back
+-- ---- what is handed back: the refusal or 0, its place, and the bytes written
+pub record Written : Type 0 where
+  pub refusal : ℕ
+  pub place : ℕ
+  pub bytes : ℕ
+
 abbrev pub refused : ℕ → ℕ → Written
 refused n p = record { refusal = n; place = p; bytes = 0 }
 
 abbrev pub accepted : List ℕ → Written
 accepted t = record { refusal = no_refusal; place = 0; bytes = length t }
 
-abbrev pub edition_of : Declared.Edition → Edition
-edition_of Two = two
-edition_of Three = three
+-- of a result, whose value is the bytes
+abbrev pub written : Result ℕ Refused.Refusal → Written
+written = handed refused (λ n. record { refusal = no_refusal; place = 0; bytes = n })
 
 -- ---- the writer: long, letter, phase where the edition has none, room, or the text of the circuit of the word's letters
 abbrev pub Circuits : List Letter → List Statement → Type 0

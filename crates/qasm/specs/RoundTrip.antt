@@ -13,10 +13,9 @@ use Rattle.exact.proofs.Matrices.Same.{Same-of, Same-trans}
 use Rattle.exact.proofs.Cases.Letters.{bytes_length, bytes_inj}
 use Rattle.exact.proofs.Outcomes.Ladder.{Passed, answered}
 use Rattle.exact.proofs.Outcomes.Lent.{handed_same, bytes_same}
-use Rattle.qasm.specs.declared.Written.{Written}
 use Rattle.circuit.specs.Meaning.{Edition, two, three, row, Statement, h', s', t', x', allowed, AllAllowed, text, Right, circuit}
 use Rattle.circuit.specs.Meaning.{less_i, matrix, Reads}
-use Rattle.qasm.specs.Meaning.{refused, accepted, Circuits, write_refusals, WriteOutcome, read_refusals, ReadOutcome}
+use Rattle.qasm.specs.Meaning.{Written, refused, accepted, Circuits, write_refusals, WriteOutcome, read_refusals, ReadOutcome}
 use Rattle.circuit.proofs.Lines.{allowed_append, each, computed, one_reading}
 use Rattle.circuit.proofs.Gates.{letters_circuit, circuit_matrix, word_matrix}
 

@@ -13,8 +13,7 @@ use Rattle.exact.proofs.Outcomes.Ladder.{Passed, only_refused}
 use Rattle.exact.proofs.Outcomes.Places.{one_stop}
 use Rattle.exact.proofs.Outcomes.Lent.{handed_same, bytes_same}
 use Rattle.circuit.specs.Meaning.{Edition, two, three, row, Statement, h', t', sdg, tdg, AllAllowed, text, Right, letters, circuit, Reads}
-use Rattle.qasm.specs.declared.Written.{Written}
-use Rattle.qasm.specs.Meaning.{refused, accepted, Circuits, write_refusals, WriteOutcome, ReadOutcome}
+use Rattle.qasm.specs.Meaning.{Written, refused, accepted, Circuits, write_refusals, WriteOutcome, ReadOutcome}
 use Rattle.qasm.specs.RoundTrip.{only_read, written}
 
 -- ---- the reader: a place of 9 that is one late, or any other, at every text that is not right

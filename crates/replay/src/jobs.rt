@@ -57,8 +57,11 @@ fn written<W: Write>(out: &mut W, answer: Result<Counts, Refusal>, lent: &[u8]) 
     text(out, lent)
 }
 
-fn circuit<W: Write>(out: &mut W, answer: qasm::Written, lent: &[u8]) -> io::Result<()> {
-    write!(out, "{} {} {} ", answer.refusal, answer.place, answer.bytes)?;
+fn circuit<W: Write>(out: &mut W, answer: Result<usize, Refusal>, lent: &[u8]) -> io::Result<()> {
+    match answer {
+        Ok(bytes) => write!(out, "0 0 {bytes} ")?,
+        Err(refusal) => write!(out, "{} {} 0 ", refusal.number(), refusal.place())?,
+    }
     text(out, lent)
 }
 

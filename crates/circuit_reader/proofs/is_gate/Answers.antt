@@ -1,5 +1,5 @@
 -- `is_gate` meets its contract. Assumes nothing.
-use Rattle.circuit_reader.specs.ReadingLaws.{gate_h, gate_s, gate_t, gate_x, gate_none}
+use Rattle.circuit_reader.specs.ReadingLaws.{gate_h, gate_s, gate_t, gate_x}
 use Rattle.circuit_reader.proofs.is_gate.Goals as goal
 
 pub returns-in-104 : goal.returns-in-104
@@ -13,6 +13,3 @@ returns-in-116 c = search gate_t
 
 pub returns-in-120 : goal.returns-in-120
 returns-in-120 c = search gate_x
-
-pub returns-in_default : goal.returns-in_default
-returns-in_default c = search gate_none

@@ -1,67 +1,30 @@
 -- `other_at` meets its contract, a law for each statement that the first two bytes tell. Assumes nothing.
-use native.Mathlib.Omega.{arith}
 use Rattle.circuit_reader.specs.Chosen.{line_h, line_x, line_s, line_t, line_sdg, line_tdg, line_phase, line_none, line_no_phase}
 use Rattle.circuit_reader.proofs.other_at.Goals as goal
 
-pub bounds-text-at : goal.bounds-text-at
-bounds-text-at c = omega arith
+pub returns-in-104 : goal.returns-in-104
+returns-in-104 c = search line_h
 
-pub matched-requires : goal.matched-requires
-matched-requires c = omega arith
+pub returns-in-120 : goal.returns-in-120
+returns-in-120 c = search line_x
 
-pub returns-then-b-eq104 : goal.returns-then-b-eq104
-returns-then-b-eq104 c = search line_h
+pub returns-in-115 : goal.returns-in-115
+returns-in-115 c = search line_sdg
 
-pub matched-requires-then-b-eq120 : goal.matched-requires-then-b-eq120
-matched-requires-then-b-eq120 c = omega arith
+pub returns-in-115-2 : goal.returns-in-115-2
+returns-in-115-2 c = search line_s
 
-pub returns-then-b-eq120 : goal.returns-then-b-eq120
-returns-then-b-eq120 c = search line_x
+pub returns-in-116 : goal.returns-in-116
+returns-in-116 c = search line_tdg
 
-pub overflow_add-at : goal.overflow_add-at
-overflow_add-at c = omega arith
+pub returns-in-116-2 : goal.returns-in-116-2
+returns-in-116-2 c = search line_t
 
-pub stands-requires : goal.stands-requires
-stands-requires c = omega arith
+pub returns-in-103 : goal.returns-in-103
+returns-in-103 c = search line_phase
 
-pub matched-requires-then-stands : goal.matched-requires-then-stands
-matched-requires-then-stands c = omega arith
+pub returns-in_default : goal.returns-in_default
+returns-in_default c = search line_no_phase
 
-pub returns-then-stands : goal.returns-then-stands
-returns-then-stands c = search line_sdg
-
-pub matched-requires-then-b-eq115 : goal.matched-requires-then-b-eq115
-matched-requires-then-b-eq115 c = omega arith
-
-pub returns-then-b-eq115 : goal.returns-then-b-eq115
-returns-then-b-eq115 c = search line_s
-
-pub overflow_add-at-then-b-eq116 : goal.overflow_add-at-then-b-eq116
-overflow_add-at-then-b-eq116 c = omega arith
-
-pub stands-requires-then-b-eq116 : goal.stands-requires-then-b-eq116
-stands-requires-then-b-eq116 c = omega arith
-
-pub matched-requires-then-stands-2 : goal.matched-requires-then-stands-2
-matched-requires-then-stands-2 c = omega arith
-
-pub returns-then-stands-2 : goal.returns-then-stands-2
-returns-then-stands-2 c = search line_tdg
-
-pub matched-requires-then-b-eq116 : goal.matched-requires-then-b-eq116
-matched-requires-then-b-eq116 c = omega arith
-
-pub returns-then-b-eq116 : goal.returns-then-b-eq116
-returns-then-b-eq116 c = search line_t
-
-pub returns-then-b-ne103 : goal.returns-then-b-ne103
-returns-then-b-ne103 c = search line_none
-
-pub returns-then-not-phase : goal.returns-then-not-phase
-returns-then-not-phase c = search line_no_phase
-
-pub matched-requires-2 : goal.matched-requires-2
-matched-requires-2 c = omega arith
-
-pub returns : goal.returns
-returns c = search line_phase
+pub returns-in_default-2 : goal.returns-in_default-2
+returns-in_default-2 c = search line_none

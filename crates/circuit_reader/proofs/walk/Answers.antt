@@ -5,5 +5,5 @@ use Rattle.circuit_reader.proofs.walk.Goals as goal
 pub walk_by-requires : goal.walk_by-requires
 walk_by-requires c = search heading_three
 
-pub walk_by-requires-2 : goal.walk_by-requires-2
-walk_by-requires-2 c = search heading_two
+pub walk_by-requires-else-stands : goal.walk_by-requires-else-stands
+walk_by-requires-else-stands c = search heading_two

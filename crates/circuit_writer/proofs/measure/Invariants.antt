@@ -1,11 +1,6 @@
--- What the loops of `circuit_writer::measure` keep.
-use Prim.Native.Nat.{◌-◌}
-use lib.ListN.{length}
+-- What the loop of `circuit_writer::measure` keeps: the first `i` letters are measured.
 use Rattle.circuit_writer.specs.WritingLaws.{Measuring}
 use Rattle.circuit_writer.proofs.measure.Given as goal
 
 abbrev pub invariant-loop-i : goal.invariant-loop-i
 invariant-loop-i l = Measuring l.word l.lines l.phase l.i
-
-abbrev pub decreases-loop-i : goal.decreases-loop-i
-decreases-loop-i l = length l.word - l.i

@@ -8,7 +8,7 @@ use Rattle.normal_form.specs.Meaning.{Written, WordOutcome}
 use Rattle.clifford.specs.Meaning.{reduced, Product, Inverse, Split}
 use Rattle.clifford.specs.declared.Clifford.{Clifford}
 use Rattle.synthesis_of_clifford_t.specs.Meaning.{Synthesis, SynthesiseOutcome}
-use Rattle.qasm.specs.declared.Written.{Written as Converted}
+use Rattle.qasm.specs.Meaning.{Written as Converted}
 use Rattle.slot.specs.Meaning.{slot_of, Answer as Measured, Left, LengthOutcome, AddOutcome}
 use Rattle.view.specs.Meaning.Outcome.{Answer, ViewOutcome}
 use Rattle.rotation.specs.Meaning.{Answer as Rotated, Count, RotationOutcome, CountOutcome}
