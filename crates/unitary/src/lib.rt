@@ -80,16 +80,6 @@ pub fn check(t: Triple) -> Result<(), Refusal>
     Ok(())
 }
 
-// The refusal by its number, or 0.
-pub fn check_number(k: i64, z: ZOmega, w: ZOmega) -> u8
-    ensures { CheckOutcome k z w result }
-{
-    match check(Triple { k, n: 0, z, w }) {
-        Ok(()) => exact::ACCEPTED,
-        Err(refusal) => refusal.number(),
-    }
-}
-
 // ---- triples
 
 impl DOmegaUnitary {
