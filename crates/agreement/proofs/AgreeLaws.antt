@@ -13,9 +13,8 @@ use Rattle.normal_form.specs.Meaning as Job3
 use Rattle.normal_form.specs.Meaning.{Written, Normalises, WordOutcome, NormaliseOutcome, word_refusals}
 use Rattle.synthesis_of_clifford_t.specs.Meaning.{Synthesis}
 use Rattle.synthesis_of_clifford_t.proofs.Enough.{bytes_there}
-use Rattle.agreement.specs.declared.Agreement.{Agreement}
 use Rattle.agreement.specs.Meaning.Demand3.{Within, Agreed}
-use Rattle.agreement.specs.Meaning.Agree.{earlier, handed_on, Job4Of, Second, AgreeOutcome}
+use Rattle.agreement.specs.Meaning.Agree.{Agreement, earlier, handed_on, Job4Of, Second, AgreeOutcome}
 use Rattle.agreement.proofs.Jobs.{taken_2, ways_agree, written}
 
 -- ---- yes

@@ -13,3 +13,4 @@ pub mod Phase
 pub mod Cheapest
 pub mod Enough
 pub mod Slots
+pub mod Results

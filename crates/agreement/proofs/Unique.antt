@@ -11,8 +11,7 @@ use Rattle.normal_form.specs.Meaning.{Written}
 use Rattle.normal_form.specs.Meaning as Job3
 use Rattle.normal_form.specs.Theorems.{normalise_unique}
 use Rattle.synthesis_of_clifford_t.proofs.Unique.{synthesise_unique}
-use Rattle.agreement.specs.declared.Agreement.{Agreement}
-use Rattle.agreement.specs.Meaning.Agree.{earlier, handed_on, Job4Of, Second, Alike, AgreeOutcome}
+use Rattle.agreement.specs.Meaning.Agree.{Agreement, earlier, handed_on, Job4Of, Second, Alike, AgreeOutcome}
 
 -- ---- the second way
 one_job4 : (m : FromGates) (old : List ℕ) → Only (Job4Of m old)

@@ -1,43 +1,39 @@
--- The ways out of `second_way` and of `alike`: a lemma for each, over plain values. Assumes nothing.
-use Rattle.std.specs.Prelude.{◌≡◌, refl, Bool, true, false, List, ℕ, ℤ, pos, take}
-use Rattle.std.proofs.Common.{sym, ◌∙◌, subst, arith, Fits, to_z}
-use Rattle.std.proofs.Math.Facts.{to_z_pos}
-use Rattle.std.specs.Int.{w8, w64}
-use Rattle.exact.specs.Meaning.Outcome.{Rung, Decides}
-use Rattle.exact.specs.Meaning.Limits.{no_refusal}
+-- The ways out of `second_way`: a lemma for each, over plain values. Assumes nothing.
+use Rattle.std.specs.Prelude.{◌≡◌, refl, List, ℕ, ℤ, pos, Result, Ok, Err}
+use Rattle.std.proofs.Common.{◌∙◌, subst, SFits, to_z-of_z}
+use Rattle.std.specs.Int.{w64}
+use Rattle.exact.specs.declared.Refusal.{Refusal}
+use Rattle.exact.specs.Meaning.Handed.{number, place}
+use Rattle.exact.specs.Meaning.Outcome.{Rung}
 use Rattle.exact.specs.Meaning.Lent.{lent}
-use Rattle.exact.proofs.Whole.Parity.{false_true}
-use Rattle.unitary.specs.Meaning.{FromGates}
-use Rattle.unitary.specs.Checks.{refutes}
-use Rattle.normal_form.specs.Meaning.{Written}
-use Rattle.synthesis_of_clifford_t.specs.Meaning.{Synthesis, SynthesiseOutcome}
-use Rattle.agreement.specs.Meaning.Agree.{Second, Alike}
+use Rattle.exact.proofs.Whole.Machine.{held}
+use Rattle.exact.proofs.Outcomes.Handed.{number_some}
+use Rattle.unitary.specs.declared.DOmegaUnitary.{DOmegaUnitary}
+use Rattle.unitary.specs.Meaning.{FromGates, as_from_gates}
+use Rattle.normal_form.specs.declared.Counts.{Counts}
+use Rattle.normal_form.specs.Meaning.{Written, refused, written}
+use Rattle.synthesis_of_clifford_t.specs.declared.Spelt.{Spelt}
+use Rattle.synthesis_of_clifford_t.specs.Meaning.{synthesised, SynthesiseOutcome}
+use Rattle.synthesis_of_clifford_t.proofs.Results.{placeless}
+use Rattle.agreement.specs.Meaning.Agree.{Second}
 
--- ---- the second way
-module _ (m : FromGates) (old : List ℕ) where
-  pub stopped_before : (m.refusal ≡ no_refusal → ⊥) → Second m old (record { refusal = m.refusal; place = m.place; bytes = 0; tees = 0 }) old
-  stopped_before f = Rung.given m.place (f, refl) refl
+module _ (m : Result DOmegaUnitary Refusal) (old : List ℕ) where
+  -- a refusal of job 2
+  pub stopped_before : (e : Refusal) → m ≡ Err e → Second (as_from_gates m) old (written (Err e)) old
+  stopped_before e is = rw is (Rung.given (place e) (number_some e, refl) refl)
 
-  pub went_on : m.refusal ≡ no_refusal → Fits w8 m.matrix.k → (j : Synthesis) (new : List ℕ)
-      → SynthesiseOutcome (to_z w64 m.matrix.k) m.matrix.n m.matrix.z m.matrix.w old j new
-      → Second m old (record { refusal = j.refusal; place = 0; bytes = j.bytes; tees = j.tees }) new
-  went_on e f j new o = Rung.passed (λ p h. h.0 e) (record { job = lent j new; outcome = of_k; is = refl })
-    where
-      of_k : SynthesiseOutcome (pos m.matrix.k) m.matrix.n m.matrix.z m.matrix.w old j new
-      of_k = subst (λ (k : ℤ). SynthesiseOutcome k m.matrix.n m.matrix.z m.matrix.w old j new) (to_z_pos w64 (omega (arith, f.fits))) o
+  -- job 4, asked for job 2's matrix, its exponent as the machine reads it back
+  module _ (t : DOmegaUnitary) (is : m ≡ Ok t) (k : ℤ) (fits : SFits w64 k) (k_is : k ≡ pos t.k) (new : List ℕ) where
+    abbrev Asked : ℤ → Result Spelt Refusal → Type 0
+    Asked k r = SynthesiseOutcome k t.n t.z t.w old (synthesised r) new
 
--- ---- alike or not
-module _ (a : Written) (x : List ℕ) (b : Written) (y : List ℕ) where
-  pub first_refused : (a.refusal ≡ no_refusal → ⊥) → Decides (Alike a x b y) false
-  first_refused f = refutes (λ h. f h.first_taken)
+    of_k : (r : Result Spelt Refusal) → Asked (held w64 k) r → Asked (pos t.k) r
+    of_k r = subst (λ (k : ℤ). Asked k r) (to_z-of_z fits ∙ k_is)
 
-  pub second_refused : (b.refusal ≡ no_refusal → ⊥) → Decides (Alike a x b y) false
-  second_refused f = refutes (λ h. f h.second_taken)
+    pub refused_behind : (e : Refusal) → Asked (held w64 k) (Err e) → Second (as_from_gates m) old (written (Err e)) new
+    refused_behind e o =
+        rw (is, placeless (held w64 k) t.n t.z t.w old new e o)
+        (Rung.passed (λ p h. h.0 refl) (record { job = lent (synthesised (Err e)) new; outcome = of_k (Err e) o; is = refl }))
 
-  pub bytes_decide : a.refusal ≡ no_refusal → b.refusal ≡ no_refusal → (r : Bool)
-      → (r ≡ true → take a.bytes x ≡ take b.bytes y) × (take a.bytes x ≡ take b.bytes y → r ≡ true) → Decides (Alike a x b y) r
-  bytes_decide e f r s =
-      record {
-        yes = λ t. record { first_taken = e; second_taken = f; same_bytes = s.0 t };
-        no = λ t h. false_true (sym t ∙ s.1 h.same_bytes);
-      }
+    pub went_on : (s : Spelt) → Asked (held w64 k) (Ok s) → Second (as_from_gates m) old (written (Ok (record { bytes = s.bytes; tees = s.tees }))) new
+    went_on s o = rw is (Rung.passed (λ p h. h.0 refl) (record { job = lent (synthesised (Ok s)) new; outcome = of_k (Ok s) o; is = refl }))

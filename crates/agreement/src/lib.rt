@@ -3,66 +3,63 @@
 
 ghost use Rattle.std.specs.Prelude.{◌≤◌, length};
 ghost use Rattle.exact.specs.Meaning.Outcome.{Decides};
-ghost use Rattle.agreement.specs.Meaning.Agree.{Second, Alike, AgreeOutcome};
+ghost use Rattle.unitary.specs.Meaning.{as_from_gates};
+ghost use Rattle.normal_form.specs.Meaning.{written};
+ghost use Rattle.agreement.specs.Meaning.Agree.{Second, Alike, agreed, AgreeOutcome};
 
-use normal_form::Written;
-use unitary::FromGates;
+use exact::Refusal;
+use normal_form::Counts;
+use ring::Triple;
+use unitary::DOmegaUnitary;
 
 // Both ways' answers, and whether they are accepted with the same bytes.
 #[derive(Clone, Copy)]
 pub struct Agreement {
     pub yes: bool,
-    pub first: Written,
-    pub second: Written,
+    pub first: Result<Counts, Refusal>,
+    pub second: Result<Counts, Refusal>,
 }
 
 // The second way: job 4 on what job 2 answered; a refusal of job 2 is handed on.
-fn second_way(m: FromGates, buf: &mut [u8]) -> Written
-    ensures { Second m buf.old result buf.new }
+fn second_way(matrix: Result<DOmegaUnitary, Refusal>, buf: &mut [u8]) -> Result<Counts, Refusal>
+    ensures { Second (as_from_gates matrix) buf.old (written result) buf.new }
 {
-    if m.refusal != exact::ACCEPTED {
-        return Written {
-            refusal: m.refusal,
-            place: m.place,
-            bytes: 0,
-            tees: 0,
-        };
-    }
-    let t = m.matrix;
-    let z = t.z;
-    let w = t.w;
-    let job = synthesis_of_clifford_t::synthesise(t.k as i64, t.n, z, w, buf);
-    Written {
-        refusal: job.refusal,
-        place: 0,
-        bytes: job.bytes,
-        tees: job.tees,
-    }
+    let m = matrix?;
+    let t = Triple {
+        k: i64::from(m.k),
+        n: m.n,
+        z: m.z,
+        w: m.w,
+    };
+    let spelt = synthesis_of_clifford_t::synthesise(t, buf)?;
+    Ok(Counts {
+        bytes: spelt.bytes,
+        tees: spelt.tees,
+    })
 }
 
-fn alike(a: Written, first: &[u8], b: Written, second: &[u8]) -> bool
-    requires fact_1 { a.bytes ≤ length first.now }
-    requires fact_2 { b.bytes ≤ length second.now }
-    ensures { Decides (Alike a first.now b second.now) result }
+fn alike(
+    a: Result<Counts, Refusal>,
+    first: &[u8],
+    b: Result<Counts, Refusal>,
+    second: &[u8],
+) -> bool
+    requires first_there { (written a).bytes ≤ length first.now }
+    requires second_there { (written b).bytes ≤ length second.now }
+    ensures { Decides (Alike (written a) first.now (written b) second.now) result }
 {
-    if a.refusal != exact::ACCEPTED {
-        return false;
+    match (a, b) {
+        (Ok(m), Ok(n)) => first[..m.bytes] == second[..n.bytes],
+        _ => false,
     }
-    if b.refusal != exact::ACCEPTED {
-        return false;
-    }
-    let m = a.bytes;
-    let n = b.bytes;
-    check::same(&first[..m], &second[..n])
 }
 
 // Both ways with the letters of `word`, each into memory of its own.
 pub fn agree(word: &[u8], first: &mut [u8], second: &mut [u8]) -> Agreement
-    ensures { AgreeOutcome word.now first.old second.old result first.new second.new }
+    ensures { AgreeOutcome word.now first.old second.old (agreed result) first.new second.new }
 {
     let a = normal_form::normalise(word, first);
-    let m = unitary::from_gates(word);
-    let b = second_way(m, second);
+    let b = second_way(unitary::from_gates(word), second);
     let yes = alike(a, first, b, second);
     Agreement {
         yes,

@@ -1,289 +1,238 @@
 // Cases of jobs 3 and 5, on either side of each limit: a line each, compared with stdout.
 #![tactic(auto)]
 
-use normal_form::Written;
-use shown::{number, text};
+use exact::Refusal;
+use normal_form::Counts;
+use shown::text;
 use std::io;
 use std::io::Write;
 
-fn handed<W: Write>(out: &mut W, label: &[u8], r: Written) -> io::Result<()> {
-    text(out, label)?;
-    text(out, b": refusal=")?;
-    number(out, r.refusal as u64)?;
-    text(out, b" place=")?;
-    number(out, r.place as u64)?;
-    text(out, b" bytes=")?;
-    number(out, r.bytes as u64)?;
-    text(out, b" t=")?;
-    number(out, r.tees as u64)
+fn handed<W: Write>(out: &mut W, label: &str, r: Result<Counts, Refusal>) -> io::Result<()> {
+    match r {
+        Ok(c) => write!(
+            out,
+            "{label}: refusal=0 place=0 bytes={} t={} ",
+            c.bytes, c.tees
+        ),
+        Err(e) => write!(
+            out,
+            "{label}: refusal={} place={} bytes=0 t=0 ",
+            e.number(),
+            e.place()
+        ),
+    }
 }
 
 // The whole buffer is shown, so that a byte that should not have been written is seen.
-fn job3_in<W: Write>(out: &mut W, word: &[u8], buf: &mut [u8], room: usize) -> io::Result<()> {
-    if room <= buf.len() {
-        let r = normal_form::normalise(word, &mut buf[0..room]);
-        handed(out, word, r)?;
-        text(out, b" ")?;
-        text(out, buf)?;
-        text(out, b"\n")?;
-    }
-    Ok(())
-}
-
-fn job5_in<W: Write>(out: &mut W, word: &[u8], buf: &mut [u8], room: usize) -> io::Result<()> {
-    if room <= buf.len() {
-        let r = normal_form::phase_free(word, &mut buf[0..room]);
-        handed(out, word, r)?;
-        text(out, b" ")?;
-        text(out, buf)?;
-        text(out, b"\n")?;
-    }
-    Ok(())
-}
-
-fn job3<W: Write>(out: &mut W, word: &[u8], room: usize) -> io::Result<()> {
+fn case<W: Write, J: Fn(&[u8], &mut [u8]) -> Result<Counts, Refusal>>(
+    out: &mut W,
+    job: J,
+    word: &str,
+    room: usize,
+) -> io::Result<()>
+    requires { J.IsAlwaysCallable job }
+{
     let mut buf = [b'.'; 16];
-    job3_in(out, word, &mut buf, room)
+    let Some(lent) = buf.get_mut(..room) else {
+        return Ok(());
+    };
+    let r = job(word.as_bytes(), lent);
+    handed(out, word, r)?;
+    text(out, &buf)?;
+    writeln!(out)
 }
 
-fn job5<W: Write>(out: &mut W, word: &[u8], room: usize) -> io::Result<()> {
-    let mut buf = [b'.'; 16];
-    job5_in(out, word, &mut buf, room)
+fn job3<W: Write>(out: &mut W, word: &str, room: usize) -> io::Result<()> {
+    case(out, normal_form::normalise, word, room)
+}
+
+fn job5<W: Write>(out: &mut W, word: &str, room: usize) -> io::Result<()> {
+    case(out, normal_form::phase_free, word, room)
 }
 
 fn document<W: Write>(out: &mut W) -> io::Result<()> {
-    job3(out, b"", 16)?;
-    job3(out, b"T", 16)?;
-    job3(out, b"TT", 16)?;
-    job3(out, b"TTTT", 16)?;
-    job3(out, b"HH", 16)?;
-    job3(out, b"HTT", 16)?;
-    job3(out, b"SHTT", 16)?;
-    job3(out, b"HSH", 16)?;
-    job3(out, b"XT", 16)?;
-    job3(out, b"WT", 16)?;
-    job3(out, b"HTHT", 16)
+    for word in [
+        "", "T", "TT", "TTTT", "HH", "HTT", "SHTT", "HSH", "XT", "WT", "HTHT",
+    ] {
+        job3(out, word, 16)?;
+    }
+    Ok(())
 }
 
 fn phase_free_words<W: Write>(out: &mut W) -> io::Result<()> {
-    job5(out, b"", 1)?;
-    job5(out, b"", 0)?;
-    job5(out, b"T", 16)?;
-    job5(out, b"T", 2)?;
-    job5(out, b"T", 1)?;
-    job5(out, b"TW", 16)?;
-    job5(out, b"TW", 2)?;
-    job5(out, b"TW", 1)?;
-    job5(out, b"WT", 2)?;
-    job5(out, b"WT", 1)?;
-    job5(out, b"W", 16)?;
-    job5(out, b"W", 1)?;
-    job5(out, b"W", 0)?;
-    job5(out, b"HW", 1)?;
-    job5(out, b"HW", 0)?;
-    job5(out, b"XSW", 2)?;
-    job5(out, b"XSW", 1)?;
-    job5(out, b"HSH", 16)?;
-    job5(out, b"XT", 3)?;
-    job5(out, b"XT", 2)?;
-    job5(out, b"WWWWWWWW", 1)?;
-    job5(out, b"WWWWWWWW", 0)
+    for (word, room) in [
+        ("", 1),
+        ("", 0),
+        ("T", 16),
+        ("T", 2),
+        ("T", 1),
+        ("TW", 16),
+        ("TW", 2),
+        ("TW", 1),
+        ("WT", 2),
+        ("WT", 1),
+        ("W", 16),
+        ("W", 1),
+        ("W", 0),
+        ("HW", 1),
+        ("HW", 0),
+        ("XSW", 2),
+        ("XSW", 1),
+        ("HSH", 16),
+        ("XT", 3),
+        ("XT", 2),
+        ("WWWWWWWW", 1),
+        ("WWWWWWWW", 0),
+    ] {
+        job5(out, word, room)?;
+    }
+    Ok(())
 }
 
 fn identities<W: Write>(out: &mut W) -> io::Result<()> {
-    job3(out, b"I", 16)?;
-    job3(out, b"I", 1)?;
-    job3(out, b"I", 0)?;
-    job3(out, b"II", 16)?;
-    job3(out, b"IT", 16)?;
-    job3(out, b"ITI", 16)?;
-    job3(out, b"HIH", 16)?;
-    job3(out, b"SHTIT", 16)?;
-    job3(out, b"HTI", 16)?;
-    job3(out, b"HTIHT", 16)?;
-    job3(out, b"IXTHS", 16)?;
-    job3(out, b"XITHS", 16)?;
-    job3(out, b"XTIHS", 16)?;
-    job3(out, b"XTHIS", 16)?;
-    job3(out, b"XTHSI", 16)?;
-    job5(out, b"I", 16)?;
-    job5(out, b"I", 0)?;
-    job5(out, b"TIW", 16)?;
-    job5(out, b"WI", 16)?;
-    job5(out, b"XIT", 3)?;
-    job5(out, b"XIT", 2)
+    for (word, room) in [
+        ("I", 16),
+        ("I", 1),
+        ("I", 0),
+        ("II", 16),
+        ("IT", 16),
+        ("ITI", 16),
+        ("HIH", 16),
+        ("SHTIT", 16),
+        ("HTI", 16),
+        ("HTIHT", 16),
+        ("IXTHS", 16),
+        ("XITHS", 16),
+        ("XTIHS", 16),
+        ("XTHIS", 16),
+        ("XTHSI", 16),
+    ] {
+        job3(out, word, room)?;
+    }
+    for (word, room) in [
+        ("I", 16),
+        ("I", 0),
+        ("TIW", 16),
+        ("WI", 16),
+        ("XIT", 3),
+        ("XIT", 2),
+    ] {
+        job5(out, word, room)?;
+    }
+    Ok(())
 }
 
 // Normal words, which are given back as they are, and so are the words of job 5, which have no W.
 fn given_back<W: Write>(out: &mut W) -> io::Result<()> {
-    job3(out, b"TI", 2)?;
-    job3(out, b"TI", 1)?;
-    job3(out, b"TXSWWWWWWW", 10)?;
-    job3(out, b"TXSWWWWWWW", 9)?;
-    job3(out, b"THTSHTI", 7)?;
-    job3(out, b"SHTSHXSSSW", 10)?;
-    job5(out, b"SHTSHXSSSW", 9)?;
-    job3(out, b"SHTSHXSSS", 9)?;
-    job5(out, b"SHTSHXSSS", 9)?;
-    job5(out, b"TI", 2)?;
-    job5(out, b"TI", 1)
+    job3(out, "TI", 2)?;
+    job3(out, "TI", 1)?;
+    job3(out, "TXSWWWWWWW", 10)?;
+    job3(out, "TXSWWWWWWW", 9)?;
+    job3(out, "THTSHTI", 7)?;
+    job3(out, "SHTSHXSSSW", 10)?;
+    job5(out, "SHTSHXSSSW", 9)?;
+    job3(out, "SHTSHXSSS", 9)?;
+    job5(out, "SHTSHXSSS", 9)?;
+    job5(out, "TI", 2)?;
+    job5(out, "TI", 1)
 }
 
 fn places<W: Write>(out: &mut W) -> io::Result<()> {
-    job3(out, b"hHT", 16)?;
-    job3(out, b"i", 16)?;
-    job3(out, b"iI", 16)?;
-    job3(out, b"Ii", 16)?;
-    job3(out, b"HTxyz", 0)?;
-    job3(out, b"HT?IHT", 16)?;
-    job3(out, b"HTI?HT", 16)?;
-    job5(out, b"HTI?HT", 0)
+    job3(out, "hHT", 16)?;
+    job3(out, "i", 16)?;
+    job3(out, "iI", 16)?;
+    job3(out, "Ii", 16)?;
+    job3(out, "HTxyz", 0)?;
+    job3(out, "HT?IHT", 16)?;
+    job3(out, "HTI?HT", 16)?;
+    job5(out, "HTI?HT", 0)
 }
 
 fn rooms<W: Write>(out: &mut W) -> io::Result<()> {
-    job3(out, b"T", 2)?;
-    job3(out, b"T", 1)?;
-    job3(out, b"XT", 11)?;
-    job3(out, b"XT", 10)?;
-    job3(out, b"XT", 9)?;
-    job3(out, b"XT", 0)?;
-    job3(out, b"", 0)?;
-    job3(out, b"", 1)
-}
-
-// A byte that is a word by itself.
-fn alone<W: Write>(out: &mut W, b: u8) -> io::Result<()> {
-    let word = [b];
-    let mut buf = [b'.'; 16];
-    let r = normal_form::normalise(&word, &mut buf);
-    if r.refusal == 0 {
-        text(out, b" ")?;
-        number(out, b as u64)?;
+    for (word, room) in [
+        ("T", 2),
+        ("T", 1),
+        ("XT", 11),
+        ("XT", 10),
+        ("XT", 9),
+        ("XT", 0),
+        ("", 0),
+        ("", 1),
+    ] {
+        job3(out, word, room)?;
     }
     Ok(())
 }
 
-fn all_bytes<W: Write>(out: &mut W) -> io::Result<()> {
-    let mut b: u8 = 0;
-    while b < 255 {
-        alone(out, b)?;
-        b += 1;
-    }
-    alone(out, b)
-}
-
+// The bytes that are a word by themselves.
 fn alphabet<W: Write>(out: &mut W) -> io::Result<()> {
-    text(out, b"taken alone:")?;
-    all_bytes(out)?;
-    text(out, b"\n")
-}
-
-fn ends<W: Write>(out: &mut W, buf: &[u8]) -> io::Result<()> {
-    if buf.len() == 4100 {
-        text(out, &buf[0..4])?;
-        text(out, b"..")?;
-        text(out, &buf[4090..4100])?;
+    write!(out, "taken alone:")?;
+    for b in 0..=u8::MAX {
+        if normal_form::normalise(&[b], &mut [b'.'; 16]).is_ok() {
+            write!(out, " {b}")?;
+        }
     }
-    Ok(())
+    writeln!(out)
 }
 
-fn long_in<W: Write>(out: &mut W, label: &[u8], word: &[u8], buf: &mut [u8]) -> io::Result<()> {
-    let r = normal_form::normalise(word, buf);
-    handed(out, label, r)?;
-    text(out, b" ")?;
-    ends(out, buf)?;
-    text(out, b"\n")
+// Of the buffer its first four bytes and its last ten.
+fn ends<W: Write>(out: &mut W, buf: &[u8]) -> io::Result<()> {
+    let (Some(front), Some(back)) = (buf.get(..4), buf.get(4090..)) else {
+        return Ok(());
+    };
+    text(out, front)?;
+    text(out, b"..")?;
+    text(out, back)
 }
 
-fn long_word<W: Write>(out: &mut W, label: &[u8], word: &[u8]) -> io::Result<()> {
+// The first so many letters of a word.
+fn long_word<W: Write>(out: &mut W, label: &str, word: &[u8], letters: usize) -> io::Result<()> {
+    let Some(begun) = word.get(..letters) else {
+        return Ok(());
+    };
     let mut buf = [b'.'; 4100];
-    long_in(out, label, word, &mut buf)
-}
-
-fn by_turns(i: usize) -> u8 {
-    if i % 2 == 0 { b'T' } else { b'H' }
+    let r = normal_form::normalise(begun, &mut buf);
+    handed(out, label, r)?;
+    ends(out, &buf)?;
+    writeln!(out)
 }
 
 // T and then HT over and over.
-fn fill_syllables(word: &mut [u8; 4097]) {
-    let mut i: usize = 0;
-    while i < 4097 {
-        word[i] = by_turns(i);
-        i += 1;
-    }
-}
-
-fn up_and_down(i: usize) -> u8 {
-    if i < 818 {
-        if i % 2 == 0 { b'H' } else { b'T' }
-    } else {
-        if (i - 818) % 8 == 7 { b'H' } else { b'T' }
-    }
-}
-
-// HT 409 times, and then its inverse.
-fn fill_up_and_down(word: &mut [u8; 4090]) {
-    let mut i: usize = 0;
-    while i < 4090 {
-        word[i] = up_and_down(i);
-        i += 1;
-    }
-}
-
-fn syllables<W: Write>(out: &mut W, word: &[u8]) -> io::Result<()> {
-    if word.len() == 4097 {
-        long_word(out, b"2048 syllables", &word[0..4095])?;
-        long_word(out, b"2048 syllables and H", &word[0..4096])?;
-        long_word(out, b"4097 letters", word)?;
-    }
-    Ok(())
-}
-
-fn syllables_of<W: Write>(out: &mut W, word: &[u8; 4097]) -> io::Result<()> {
-    syllables(out, word)
-}
-
 fn most_syllables<W: Write>(out: &mut W) -> io::Result<()> {
-    let mut word = [b'H'; 4097];
-    fill_syllables(&mut word);
-    syllables_of(out, &word)
-}
-
-fn returned<W: Write>(out: &mut W, word: &[u8]) -> io::Result<()> {
-    if word.len() == 4090 {
-        long_word(out, b"up", &word[0..818])?;
-        long_word(out, b"up and down", word)?;
+    let mut word = [b'T'; 4097];
+    for (i, letter) in word.iter_mut().enumerate() {
+        if i % 2 == 1 {
+            *letter = b'H';
+        }
     }
-    Ok(())
+    long_word(out, "2048 syllables", &word, 4095)?;
+    long_word(out, "2048 syllables and H", &word, 4096)?;
+    long_word(out, "4097 letters", &word, 4097)
 }
 
-fn returned_of<W: Write>(out: &mut W, word: &[u8; 4090]) -> io::Result<()> {
-    returned(out, word)
-}
-
+// HT 409 times, and then its inverse: H behind each seven T.
 fn up_and_back<W: Write>(out: &mut W) -> io::Result<()> {
-    let mut word = [b'H'; 4090];
-    fill_up_and_down(&mut word);
-    returned_of(out, &word)
-}
-
-fn only_tees<W: Write>(out: &mut W) -> io::Result<()> {
-    let word = [b'T'; 4096];
-    long_word(out, b"4096 T", &word)
-}
-
-fn only_identities<W: Write>(out: &mut W) -> io::Result<()> {
-    let word = [b'I'; 4096];
-    long_word(out, b"4096 I", &word)?;
-    let word = [b'I'; 4097];
-    long_word(out, b"4097 I", &word)
+    let mut word = [b'T'; 4090];
+    for (i, letter) in word.iter_mut().enumerate() {
+        let is_h = if i < 818 {
+            i % 2 == 0
+        } else {
+            (i - 818) % 8 == 7
+        };
+        if is_h {
+            *letter = b'H';
+        }
+    }
+    long_word(out, "up", &word, 818)?;
+    long_word(out, "up and down", &word, 4090)
 }
 
 fn long_words<W: Write>(out: &mut W) -> io::Result<()> {
     most_syllables(out)?;
     up_and_back(out)?;
-    only_tees(out)?;
-    only_identities(out)
+    long_word(out, "4096 T", &[b'T'; 4096], 4096)?;
+    long_word(out, "4096 I", &[b'I'; 4096], 4096)?;
+    long_word(out, "4097 I", &[b'I'; 4097], 4097)
 }
 
 fn main(rt: HostRuntime) -> io::Result<()> {

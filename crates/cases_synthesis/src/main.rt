@@ -1,203 +1,197 @@
 // Job 4's cases of docs/SCOPE.md, Either side, with more at each limit and at the room: a line each, compared with stdout.
 #![tactic(auto)]
 
-use ring::ZOmega;
-use shown::{number, signed, text};
+use ring::{Triple, ZOmega};
+use shown::text;
 use std::io;
 use std::io::Write;
 use unitary::DOmegaUnitary;
 
-fn quad(a: i64, b: i64, c: i64, d: i64) -> ZOmega {
-    ZOmega {
-        a: a,
-        b: b,
-        c: c,
-        d: d,
-    }
-}
-
 // The whole lent buffer is shown, so that a byte past the length is seen too.
-fn case<W: Write>(
-    out: &mut W,
-    label: &[u8],
-    k: i64,
-    n: u8,
-    z: ZOmega,
-    w: ZOmega,
-    buf: &mut [u8],
-) -> io::Result<()> {
-    let r = synthesis_of_clifford_t::synthesise(k, n, z, w, buf);
-    text(out, label)?;
-    text(out, b": refusal=")?;
-    number(out, r.refusal as u64)?;
-    text(out, b" bytes=")?;
-    number(out, r.bytes as u64)?;
-    text(out, b" t=")?;
-    number(out, r.tees as u64)?;
-    text(out, b" steps=")?;
-    number(out, r.steps as u64)?;
+fn case<W: Write>(out: &mut W, label: &str, t: Triple, buf: &mut [u8]) -> io::Result<()> {
+    match synthesis_of_clifford_t::synthesise(t, buf) {
+        Ok(s) => write!(
+            out,
+            "{label}: refusal=0 bytes={} t={} steps={}",
+            s.bytes, s.tees, s.steps
+        )?,
+        Err(refusal) => write!(
+            out,
+            "{label}: refusal={} bytes=0 t=0 steps=0",
+            refusal.number()
+        )?,
+    }
     text(out, b" buffer=")?;
     text(out, buf)?;
-    text(out, b"\n")
+    writeln!(out)
 }
 
+// The triple's four parts one by one, so that a case is a line.
 fn short<W: Write>(
     out: &mut W,
-    label: &[u8],
+    label: &str,
     k: i64,
     n: u8,
     z: ZOmega,
     w: ZOmega,
 ) -> io::Result<()> {
-    let mut buf = [b'.'; 16];
-    case(out, label, k, n, z, w, &mut buf)
+    case(out, label, Triple { k, n, z, w }, &mut [b'.'; 16])
 }
 
 fn refusals<W: Write>(out: &mut W) -> io::Result<()> {
-    let zero = quad(0, 0, 0, 0);
-    let one = quad(0, 0, 0, 1);
-    let top = quad(0, 0, 0, 1073741824);
-    let over = quad(0, 0, 0, 1073741825);
-    let under = quad(-1073741825, 0, 0, 0);
-    let crossed = quad(0, 0, 1, 1);
-    short(out, b"k=61", 61, 0, top, zero)?;
-    short(out, b"k=-1", -1, 0, one, zero)?;
-    short(out, b"k=-1 before 2^30+1", -1, 0, over, zero)?;
-    short(out, b"2^30+1", 60, 0, over, zero)?;
-    short(out, b"-2^30-1 before unitary", 60, 0, top, under)?;
-    short(out, b"z=w=1, k=0", 0, 0, one, one)?;
-    short(out, b"only the squares fit", 1, 0, crossed, zero)?;
-    let mut none = [b'.'; 0];
-    case(out, b"unitary before room", 0, 0, one, one, &mut none)
+    let zero = ZOmega::ZERO;
+    let one = ZOmega::ONE;
+    let top = ZOmega::new(0, 0, 0, 1073741824);
+    let over = ZOmega::new(0, 0, 0, 1073741825);
+    let under = ZOmega::new(-1073741825, 0, 0, 0);
+    let crossed = ZOmega::new(0, 0, 1, 1);
+    short(out, "k=61", 61, 0, top, zero)?;
+    short(out, "k=-1", -1, 0, one, zero)?;
+    short(out, "k=-1 before 2^30+1", -1, 0, over, zero)?;
+    short(out, "2^30+1", 60, 0, over, zero)?;
+    short(out, "-2^30-1 before unitary", 60, 0, top, under)?;
+    short(out, "z=w=1, k=0", 0, 0, one, one)?;
+    short(out, "only the squares fit", 1, 0, crossed, zero)?;
+    let both_one = Triple {
+        k: 0,
+        n: 0,
+        z: one,
+        w: one,
+    };
+    case(out, "unitary before room", both_one, &mut [])
 }
 
 fn at_zero<W: Write>(out: &mut W) -> io::Result<()> {
-    let zero = quad(0, 0, 0, 0);
-    let one = quad(0, 0, 0, 1);
-    short(out, b"X", 0, 4, zero, one)?;
-    short(out, b"TI", 0, 1, one, zero)?;
-    short(out, b"longest closing", 0, 1, zero, one)?;
-    short(out, b"n=255", 0, 255, one, zero)?;
-    short(out, b"z=-omega^2", 0, 3, quad(0, -1, 0, 0), zero)?;
-    short(out, b"w=-omega^3", 0, 6, zero, quad(-1, 0, 0, 0))
+    let zero = ZOmega::ZERO;
+    let one = ZOmega::ONE;
+    short(out, "X", 0, 4, zero, one)?;
+    short(out, "TI", 0, 1, one, zero)?;
+    short(out, "longest closing", 0, 1, zero, one)?;
+    short(out, "n=255", 0, 255, one, zero)?;
+    short(out, "z=-omega^2", 0, 3, ZOmega::new(0, -1, 0, 0), zero)?;
+    short(out, "w=-omega^3", 0, 6, zero, ZOmega::new(-1, 0, 0, 0))
 }
 
 // n from 0 to 7, with w = 0 and with z = 0.
-fn each_n<W: Write>(out: &mut W, zero: ZOmega, one: ZOmega) -> io::Result<()> {
-    let mut n: u8 = 0;
-    while n < 8 {
-        short(out, b"w=0, next n", 0, n, one, zero)?;
-        short(out, b"z=0, next n", 0, n, zero, one)?;
-        n += 1;
+fn each_n<W: Write>(out: &mut W) -> io::Result<()> {
+    for n in 0..8 {
+        short(out, "w=0, next n", 0, n, ZOmega::ONE, ZOmega::ZERO)?;
+        short(out, "z=0, next n", 0, n, ZOmega::ZERO, ZOmega::ONE)?;
     }
     Ok(())
 }
 
 fn unreduced<W: Write>(out: &mut W) -> io::Result<()> {
-    let zero = quad(0, 0, 0, 0);
-    let root = quad(-536870912, 0, 536870912, 0);
-    short(out, b"identity at k=1", 1, 0, quad(-1, 0, 1, 0), zero)?;
+    let zero = ZOmega::ZERO;
+    let top = ZOmega::new(0, 0, 0, 1073741824);
+    let root = ZOmega::new(-536870912, 0, 536870912, 0);
+    short(out, "identity at k=1", 1, 0, ZOmega::new(-1, 0, 1, 0), zero)?;
+    short(out, "identity at k=60", 60, 0, top, zero)?;
     short(
         out,
-        b"identity at k=60",
+        "-identity at k=60",
         60,
         0,
-        quad(0, 0, 0, 1073741824),
+        ZOmega::new(0, 0, 0, -1073741824),
         zero,
     )?;
-    short(
-        out,
-        b"-identity at k=60",
-        60,
-        0,
-        quad(0, 0, 0, -1073741824),
-        zero,
-    )?;
-    short(out, b"X at k=60", 60, 4, zero, quad(0, 0, 0, 1073741824))?;
-    short(out, b"H at k=60", 60, 4, root, root)
+    short(out, "X at k=60", 60, 4, zero, top)?;
+    short(out, "H at k=60", 60, 4, root, root)
 }
 
 fn steps<W: Write>(out: &mut W) -> io::Result<()> {
-    let one = quad(0, 0, 0, 1);
-    short(out, b"H", 1, 4, one, one)?;
-    short(out, b"HSH", 1, 2, quad(0, 0, 1, 0), quad(-1, 0, 0, 0))?;
-    short(out, b"HTHT", 2, 2, quad(0, 0, 1, 1), quad(0, 0, -1, 1))?;
+    let one = ZOmega::ONE;
+    short(out, "H", 1, 4, one, one)?;
     short(
         out,
-        b"k=3, four steps",
-        3,
-        0,
-        quad(0, 0, 1, -1),
-        quad(-1, 1, 0, 2),
+        "HSH",
+        1,
+        2,
+        ZOmega::new(0, 0, 1, 0),
+        ZOmega::new(-1, 0, 0, 0),
     )?;
     short(
         out,
-        b"k=3, five steps",
+        "HTHT",
+        2,
+        2,
+        ZOmega::new(0, 0, 1, 1),
+        ZOmega::new(0, 0, -1, 1),
+    )?;
+    short(
+        out,
+        "k=3, four steps",
+        3,
+        0,
+        ZOmega::new(0, 0, 1, -1),
+        ZOmega::new(-1, 1, 0, 2),
+    )?;
+    short(
+        out,
+        "k=3, five steps",
         3,
         7,
-        quad(1, 1, 1, 0),
-        quad(2, 0, 0, 1),
+        ZOmega::new(1, 1, 1, 0),
+        ZOmega::new(2, 0, 0, 1),
     )
 }
 
 fn steps_and_tees<W: Write>(out: &mut W) -> io::Result<()> {
     short(
         out,
-        b"four steps, five T",
+        "four steps, five T",
         3,
         5,
-        quad(-1, 2, 0, 1),
-        quad(0, 0, 1, 1),
+        ZOmega::new(-1, 2, 0, 1),
+        ZOmega::new(0, 0, 1, 1),
     )?;
     short(
         out,
-        b"five steps, four T",
+        "five steps, four T",
         3,
         0,
-        quad(0, 0, 2, 1),
-        quad(1, -1, 1, 0),
+        ZOmega::new(0, 0, 2, 1),
+        ZOmega::new(1, -1, 1, 0),
     )?;
     short(
         out,
-        b"the same at k=4, n=8",
+        "the same at k=4, n=8",
         4,
         8,
-        quad(-1, 2, 1, 2),
-        quad(-1, 2, -1, 0),
+        ZOmega::new(-1, 2, 1, 2),
+        ZOmega::new(-1, 2, -1, 0),
     )
 }
 
 fn room<W: Write>(out: &mut W) -> io::Result<()> {
-    let zero = quad(0, 0, 0, 0);
-    let one = quad(0, 0, 0, 1);
-    let mut two = [b'.'; 2];
-    let mut single = [b'.'; 1];
-    case(out, b"T with 2 bytes", 0, 1, one, zero, &mut two)?;
-    case(out, b"T with 1 byte", 0, 1, one, zero, &mut single)?;
-    let z = quad(336131978, 357764841, 607162297, -58998357);
-    let w = quad(644527791, -249397456, 0, 249397456);
-    let mut exact = [b'.'; 239];
-    let mut less = [b'.'; 238];
-    case(out, b"HT 119 times", 60, 3, z, w, &mut exact)?;
-    case(out, b"HT 119 times, a byte short", 60, 3, z, w, &mut less)
+    let t = Triple {
+        k: 0,
+        n: 1,
+        z: ZOmega::ONE,
+        w: ZOmega::ZERO,
+    };
+    case(out, "T with 2 bytes", t, &mut [b'.'; 2])?;
+    case(out, "T with 1 byte", t, &mut [b'.'; 1])?;
+    let longest = Triple {
+        k: 60,
+        n: 3,
+        z: ZOmega::new(336131978, 357764841, 607162297, -58998357),
+        w: ZOmega::new(644527791, -249397456, 0, 249397456),
+    };
+    case(out, "HT 119 times", longest, &mut [b'.'; 239])?;
+    case(out, "HT 119 times, a byte short", longest, &mut [b'.'; 238])
 }
 
 fn t_inverse<W: Write>(out: &mut W) -> io::Result<()> {
-    let t = DOmegaUnitary::identity();
-    let r = t.mul_by_t_inv_from_left();
-    text(out, b"T inverse at n=0: n=")?;
-    number(out, r.n as u64)?;
-    text(out, b" w=")?;
-    let w = r.w;
-    signed(out, w.d)?;
-    text(out, b"\n")
+    let r = DOmegaUnitary::identity().mul_by_t_inv_from_left();
+    writeln!(out, "T inverse at n=0: n={} w={}", r.n, r.w.d)
 }
 
 fn main(rt: HostRuntime) -> io::Result<()> {
     let mut out = rt.stdout();
     refusals(&mut out)?;
     at_zero(&mut out)?;
-    each_n(&mut out, quad(0, 0, 0, 0), quad(0, 0, 0, 1))?;
+    each_n(&mut out)?;
     unreduced(&mut out)?;
     steps(&mut out)?;
     steps_and_tees(&mut out)?;

@@ -40,6 +40,16 @@ module _ (k : ℤ) {z w : ZOmega} (zw : List ℤ) (fits : SFits w64 k) (z_is : z
     pub reduces : (j : Checked) (out : List ℤ) → ReduceOutcome (held w64 k) n z w j → out ≡ ten j.matrix → Reduces k n zw (j.refusal, out)
     reduces j out o e = record { job = j; outcome = as_given (λ k z w. ReduceOutcome k n z w j) o; is = λ i. (j.refusal, e i) }
 
+    pub views : (j : Answer) (out : List Float) → ViewOutcome (held w64 k) n z w j → out ≡ eight_of j.view → Views k n zw (j.refusal, out)
+    views j out o e = record { job = j; outcome = as_given (λ k z w. ViewOutcome k n z w j) o; is = λ i. (j.refusal, e i) }
+
+    pub counts_tees : (j : Count) (out : ℕ) → CountOutcome (held w64 k) n z w j → out ≡ j.tees → Counts k n zw (j.refusal, out)
+    counts_tees j out o e = record { job = j; outcome = as_given (λ k z w. CountOutcome k n z w j) o; is = λ i. (j.refusal, e i) }
+
+    pub rotates : (j : Rotated) (out : List ℤ) → RotationOutcome (held w64 k) n z w j → out ≡ nineteen_of j.rotation
+        → Rotates k n zw (j.refusal, out)
+    rotates j out o e = record { job = j; outcome = as_given (λ k z w. RotationOutcome k n z w j) o; is = λ i. (j.refusal, e i) }
+
     pub synthesises : (numbers : Synthesis → List ℕ) (old new : List ℕ) (j : Synthesis) (out : List ℕ)
         → SynthesiseOutcome (held w64 k) n z w old j new
         → out ≡ numbers j
@@ -71,15 +81,25 @@ module _ (k : ℤ) (n : ℕ) (zw : List ℤ) (fits : SFits w64 k) (t : Triple) (
       }
 
   -- r and out are what is handed back of j
-  pub views : (j : Answer) (r : ℕ) (out : List Float) → ViewOutcome t.k t.n t.z t.w j → r ≡ j.refusal → out ≡ eight_of j.view → Views k n zw (r, out)
-  views j r out o f e = record { job = j; outcome = given_in (λ k n z w. ViewOutcome k n z w j) o; is = λ i. (f i, e i) }
+  pub views_as : (j : Answer) (r : ℕ) (out : List Float) → ViewOutcome t.k t.n t.z t.w j → r ≡ j.refusal → out ≡ eight_of j.view → Views k n zw (r, out)
+  views_as j r out o f e = record { job = j; outcome = given_in (λ k n z w. ViewOutcome k n z w j) o; is = λ i. (f i, e i) }
 
-  pub counts_tees : (j : Count) (r out : ℕ) → CountOutcome t.k t.n t.z t.w j → r ≡ j.refusal → out ≡ j.tees → Counts k n zw (r, out)
-  counts_tees j r out o f e = record { job = j; outcome = given_in (λ k n z w. CountOutcome k n z w j) o; is = λ i. (f i, e i) }
+  pub counts_tees_as : (j : Count) (r out : ℕ) → CountOutcome t.k t.n t.z t.w j → r ≡ j.refusal → out ≡ j.tees → Counts k n zw (r, out)
+  counts_tees_as j r out o f e = record { job = j; outcome = given_in (λ k n z w. CountOutcome k n z w j) o; is = λ i. (f i, e i) }
 
-  pub rotates : (j : Rotated) (r : ℕ) (out : List ℤ) → RotationOutcome t.k t.n t.z t.w j → r ≡ j.refusal → out ≡ nineteen_of j.rotation
+  pub rotates_as : (j : Rotated) (r : ℕ) (out : List ℤ) → RotationOutcome t.k t.n t.z t.w j → r ≡ j.refusal → out ≡ nineteen_of j.rotation
       → Rotates k n zw (r, out)
-  rotates j r out o f e = record { job = j; outcome = given_in (λ k n z w. RotationOutcome k n z w j) o; is = λ i. (f i, e i) }
+  rotates_as j r out o f e = record { job = j; outcome = given_in (λ k n z w. RotationOutcome k n z w j) o; is = λ i. (f i, e i) }
+
+  pub synthesises_as : (numbers : Synthesis → List ℕ) (old new : List ℕ) (j : Synthesis) (r : ℕ) (out : List ℕ)
+      → SynthesiseOutcome t.k t.n t.z t.w old j new → r ≡ j.refusal → out ≡ numbers j
+      → Synthesises numbers k n zw old (r, (out, new))
+  synthesises_as numbers old new j r out o f g =
+      record {
+        job = lent j new;
+        outcome = given_in (λ k n z w. SynthesiseOutcome k n z w old j new) o;
+        is = λ i. (f i, (g i, new));
+      }
 
 -- ---- words
 pub multiplies : (w : List ℕ) (j : FromGates) (out : List ℤ) → MatrixOutcome w j → out ≡ ten j.matrix
@@ -89,6 +109,11 @@ multiplies w j out o e = record { job = j; outcome = o; is = λ i. (j.refusal, (
 pub writes : (Answer : List Letter → List Letter → Type 0) (w old new : List ℕ) (j : Written) (out : List ℕ) → WordOutcome Answer w old j new
     → out ≡ counts j → Writes Answer w old (j.refusal, (out, new))
 writes Answer w old new j out o e = record { job = lent j new; outcome = o; is = λ i. (j.refusal, (e i, new)) }
+
+-- r and out are what is handed back of j
+pub writes_as : (Answer : List Letter → List Letter → Type 0) (w old new : List ℕ) (j : Written) (r : ℕ) (out : List ℕ)
+    → WordOutcome Answer w old j new → r ≡ j.refusal → out ≡ counts j → Writes Answer w old (r, (out, new))
+writes_as Answer w old new j r out o f g = record { job = lent j new; outcome = o; is = λ i. (f i, (g i, new)) }
 
 converts : (Job : Converted → List ℕ → Type 0) (new : List ℕ) (j : Converted) (out : List ℕ) → Job j new → out ≡ counts_in j
     → Converts Job (j.refusal, (out, new))

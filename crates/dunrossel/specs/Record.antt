@@ -20,8 +20,7 @@ use Rattle.unitary.specs.Triples.{number}
 use Rattle.synthesis_of_clifford_t.specs.Meaning as Job4
 use Rattle.synthesis_of_clifford_t.specs.Meaning.{Synthesis, SpellingOf, SynthesiseOutcome}
 use Rattle.synthesis_of_clifford_t.proofs.Enough.{answer_short, bytes_there, bytes_few}
-use Rattle.record.specs.declared.Record.{Record}
-use Rattle.record.specs.Meaning.{numbers, ReadOutcome, WriteOutcome}
+use Rattle.record.specs.Meaning.{Record, numbers, ReadOutcome, WriteOutcome}
 use Rattle.dunrossel.specs.Meaning.Bench.{printed, refused, word_text, word_size, asked, NumbersOutcome, OfRecord, BenchOutcome}
 use Rattle.handed.specs.Numbers.{held_is}
 

@@ -9,14 +9,13 @@ ghost use Rattle.dunrossel.specs.Meaning.Exports.{Writes, Extends, Measures, Syn
 ghost use Rattle.dunrossel.specs.Meaning.Exports.{Multiplied, Inverted, Parted};
 ghost use Rattle.dunrossel.specs.Meaning.Bench.{NumbersOutcome, BenchOutcome};
 ghost use Rattle.handed.specs.Meaning.{counts_of, steps_of};
-ghost use Rattle.record.specs.Meaning.{numbers};
+ghost use Rattle.record.specs.Meaning.{numbers, taken_record};
 ghost use Rattle.normal_form.specs.Meaning.{Normalises, DropsPhase};
 ghost use Rattle.circuit.specs.Meaning.{two, three};
 ghost use Rattle.qasm.specs.Meaning.{WriteOutcome, ReadOutcome};
 
 use qasm::Edition;
-use record::Record;
-use ring::ZOmega;
+use ring::Triple;
 
 pub fn dunrossel_reduce(k: i64, n: u8, zw: &[i64; 8], out: &mut [i64; 10]) -> u8
     ensures { Reduces k n zw.now (result, out.new) }
@@ -53,17 +52,31 @@ pub fn dunrossel_matrix(word: &[u8], out: &mut [i64; 10], place: &mut u64) -> u8
 pub fn dunrossel_normalise(word: &[u8], buf: &mut [u8], out: &mut [u64; 3]) -> u8
     ensures { Writes Normalises word.now buf.old (result, (out.new, buf.new)) }
 {
-    let answer = normal_form::normalise(word, buf);
-    handed::put_counts(answer, out);
-    answer.refusal
+    match normal_form::normalise(word, buf) {
+        Ok(counts) => {
+            handed::put_counts(counts, out);
+            exact::ACCEPTED
+        }
+        Err(refusal) => {
+            *out = [refusal.place() as u64, 0, 0];
+            refusal.number()
+        }
+    }
 }
 
 pub fn dunrossel_phase_free(word: &[u8], buf: &mut [u8], out: &mut [u64; 3]) -> u8
     ensures { Writes DropsPhase word.now buf.old (result, (out.new, buf.new)) }
 {
-    let answer = normal_form::phase_free(word, buf);
-    handed::put_counts(answer, out);
-    answer.refusal
+    match normal_form::phase_free(word, buf) {
+        Ok(counts) => {
+            handed::put_counts(counts, out);
+            exact::ACCEPTED
+        }
+        Err(refusal) => {
+            *out = [refusal.place() as u64, 0, 0];
+            refusal.number()
+        }
+    }
 }
 
 pub fn dunrossel_slot_add(
@@ -160,11 +173,18 @@ pub fn dunrossel_rotation(k: i64, n: u8, zw: &[i64; 8], out: &mut [i64; 19]) -> 
 pub fn dunrossel_synthesise(k: i64, n: u8, zw: &[i64; 8], buf: &mut [u8], out: &mut [u64; 3]) -> u8
     ensures { Synthesises counts_of k n zw.now buf.old (result, (out.new, buf.new)) }
 {
-    let z = handed::z_of(zw);
-    let w = handed::w_of(zw);
-    let answer = synthesis_of_clifford_t::synthesise(k, n, z, w, buf);
-    handed::put_synthesis(answer, out);
-    answer.refusal
+    let t = handed::triple_of(k, n, zw);
+    let answer = synthesis_of_clifford_t::synthesise(t, buf);
+    match answer {
+        Ok(spelt) => {
+            handed::put_synthesis(spelt, out);
+            exact::ACCEPTED
+        }
+        Err(refusal) => {
+            *out = [0; 3];
+            refusal.number()
+        }
+    }
 }
 
 pub fn dunrossel_synthesise_steps(
@@ -176,11 +196,18 @@ pub fn dunrossel_synthesise_steps(
 ) -> u8
     ensures { Synthesises steps_of k n zw.now buf.old (result, (out.new, buf.new)) }
 {
-    let z = handed::z_of(zw);
-    let w = handed::w_of(zw);
-    let counted = synthesis_of_clifford_t::synthesise(k, n, z, w, buf);
-    handed::put_steps(counted, out);
-    counted.refusal
+    let t = handed::triple_of(k, n, zw);
+    let counted = synthesis_of_clifford_t::synthesise(t, buf);
+    match counted {
+        Ok(spelt) => {
+            handed::put_steps(spelt, out);
+            exact::ACCEPTED
+        }
+        Err(refusal) => {
+            *out = [0; 4];
+            refusal.number()
+        }
+    }
 }
 
 pub fn dunrossel_qasm2_write(word: &[u8], buf: &mut [u8], out: &mut [u64; 2]) -> u8
@@ -210,41 +237,28 @@ pub fn dunrossel_qasm_read(text: &[u8], buf: &mut [u8], out: &mut [u64; 2]) -> u
 // The answer to a right record, by job 4. It stays a call: where the compiler sees whose memory the word is in, it copies it by memcpy, and the
 // archive is to need memset alone.
 #[inline(never)]
-fn answer_record(r: Record, word: &mut [u8], out: &mut [u8]) -> usize
+fn answer_record(t: Triple, word: &mut [u8], out: &mut [u8]) -> usize
     requires fact_1 { enough ≤ length word.old }
     requires fact_2 { 512 ≤ length out.old }
-    ensures { NumbersOutcome (numbers r) out.old (lent result out.new) }
+    ensures { NumbersOutcome (numbers (taken_record t)) out.old (lent result out.new) }
 {
-    let z = ZOmega {
-        a: r.za,
-        b: r.zb,
-        c: r.zc,
-        d: r.zd,
-    };
-    let w = ZOmega {
-        a: r.wa,
-        b: r.wb,
-        c: r.wc,
-        d: r.wd,
-    };
-    let answer = synthesis_of_clifford_t::synthesise(r.k, r.n, z, w, word);
-    let bytes = answer.bytes;
-    record::write(
-        answer.refusal,
-        &word[..bytes],
-        answer.tees as u64,
-        answer.steps as u64,
-        out,
-    )
+    match synthesis_of_clifford_t::synthesise(t, word) {
+        Ok(spelt) => record::write(
+            exact::ACCEPTED,
+            &word[..spelt.bytes],
+            spelt.tees as u64,
+            spelt.steps as u64,
+            out,
+        ),
+        Err(refusal) => record::write(refusal.number(), b"", 0, 0, out),
+    }
 }
 
 pub fn dunrossel_bench(text: &[u8], out: &mut [u8; 512]) -> usize
     ensures { BenchOutcome text.now out.old result out.new }
 {
-    let r = record::read(text);
-    if r.refusal != 0 {
-        return record::write(r.refusal, b"", 0, 0, out);
+    match record::read(text) {
+        Ok(t) => answer_record(t, &mut exact::word_buffer(), out),
+        Err(malformed) => record::write(malformed.number(), b"", 0, 0, out),
     }
-    let mut word = exact::word_buffer();
-    answer_record(r, &mut word, out)
 }

@@ -5,12 +5,14 @@ ghost use Rattle.std.specs.Prelude.{◌≡◌};
 ghost use Rattle.clifford.specs.Meaning.{axis_number};
 ghost use Rattle.handed.specs.Meaning.{z_of, w_of, triple_of, ten, eight_of, nineteen_of, counts, counts_of, steps_of, counts_in, four_of, five_of, listed};
 ghost use Rattle.handed.specs.Numbers.{Wide};
+ghost use Rattle.normal_form.specs.Meaning.{written};
+ghost use Rattle.synthesis_of_clifford_t.specs.Meaning.{synthesised};
 
 use clifford::{Axis, Clifford, Coset};
-use normal_form::Written;
+use normal_form::Counts;
 use ring::{Triple, ZOmega};
 use rotation::Rotation;
-use synthesis_of_clifford_t::Synthesis;
+use synthesis_of_clifford_t::Spelt;
 use unitary::DOmegaUnitary;
 use view::matrix::View;
 
@@ -64,10 +66,10 @@ pub fn put_ten(t: DOmegaUnitary, out: &mut [i64; 10])
     *out = numbers;
 }
 
-pub fn put_counts(answer: Written, out: &mut [u64; 3])
-    ensures { out.new ≡ counts answer }
+pub fn put_counts(c: Counts, out: &mut [u64; 3])
+    ensures { out.new ≡ counts (written (Ok c)) }
 {
-    *out = [answer.place as u64, answer.bytes as u64, answer.tees as u64];
+    *out = [0, c.bytes as u64, c.tees as u64];
 }
 
 fn narrow(x: u8) -> i32
@@ -165,14 +167,14 @@ pub fn put_rotation(r: Rotation, out: &mut [i64; 19])
     ];
 }
 
-pub fn put_synthesis(answer: Synthesis, out: &mut [u64; 3])
-    ensures { out.new ≡ counts_of answer }
+pub fn put_synthesis(answer: Spelt, out: &mut [u64; 3])
+    ensures { out.new ≡ counts_of (synthesised (Ok answer)) }
 {
     *out = [0, answer.bytes as u64, answer.tees as u64];
 }
 
-pub fn put_steps(answer: Synthesis, out: &mut [u64; 4])
-    ensures { out.new ≡ steps_of answer }
+pub fn put_steps(answer: Spelt, out: &mut [u64; 4])
+    ensures { out.new ≡ steps_of (synthesised (Ok answer)) }
 {
     *out = [
         0,

@@ -1,22 +1,23 @@
 -- What is written for a reading is the answer to the letters read. Assumes nothing.
-use Rattle.std.specs.Prelude.{◌≡◌, Bool, true, false, List, ◌++◌, ℕ, ◌+◌, ◌<◌, ◌≤◌, length, take, drop}
+use Rattle.std.specs.Prelude.{◌≡◌, Bool, true, false, List, ◌++◌, ℕ, ◌+◌, ◌<◌, ◌≤◌, length, take, drop, Result, Ok, Err}
 use Rattle.std.proofs.Common.{sym, ◌∙◌, ap, ap₂, subst, zero-add, arith, Fits, length-append}
 use Rattle.std.specs.Int.{w64}
 use Rattle.std.proofs.Math.Seq.{take-length}
 use Rattle.exact.specs.Meaning.Word.{Letter, bytes, tees, Spelled}
 use Rattle.exact.specs.Meaning.Normal.{spell}
-use Rattle.exact.specs.Meaning.Limits.{no_refusal, letter_refusal, room_refusal}
+use Rattle.exact.specs.declared.Refusal.{Refusal}
+use Rattle.exact.specs.Meaning.Handed.{number, place}
+use Rattle.exact.specs.Meaning.Limits.{no_refusal, room_refusal}
 use Rattle.exact.specs.Meaning.Lent.{over}
 use Rattle.exact.specs.Cases.Letters.{letters_of, Inside}
 use Rattle.exact.proofs.Cases.Letters.{bytes_length, bytes_back, inside_passes}
 use Rattle.exact.proofs.Unique.Tails.{tees_append}
 use Rattle.exact.proofs.Outcomes.Ladder.{Only}
-use Rattle.reading.specs.declared.Read.{Read}
 use Rattle.reading.specs.declared.Reading.{Reading}
 use Rattle.reading.specs.Readings.{State, prefix, prefix_tees, start, run, shape, normal, phase_free, normal_of}
 use Rattle.reading.specs.Held.{Holds, Readable, count_is, count_few, bytes_most}
 use Rattle.reading.specs.Steps.{tail_of}
-use Rattle.reading.specs.Letters.{Reads}
+use Rattle.reading.specs.Letters.{Reads, letter_refused}
 use Rattle.writing.specs.declared.Ending.{Ending}
 use Rattle.writing.specs.Put.{Put, put_more}
 use Rattle.writing.specs.Endings.{end_word, end_size, ending_of, Ended, end_length, end_tees, text_of, text_is}
@@ -114,13 +115,15 @@ module _ (items : List ℕ) (r : Reading) (n : ℕ) (old : List ℕ) (h : Readab
   ending_room e mid at f m p = omega (arith, held_length h.holds, p.next)
 
 -- ---- the whole: x is what the word is read as
-module _ (w items : List ℕ) (x : Read) (l : length w ≤ 4096) (s : Reads w items x) where
-  pub refused_outside : (phase : Bool) (old : List ℕ) (p : ℕ) (n : Written) → x ≡ Read.Outside p → n ≡ refused letter_refusal p
+module _ (w items : List ℕ) (x : Result Reading Refusal) (l : length w ≤ 4096) (s : Reads w items x) where
+  pub refused_outside : (phase : Bool) (old : List ℕ) (e : Refusal) (n : Written) → x ≡ Err e → n ≡ refused (number e) (place e)
       → WordOutcome (Answers phase) w old n old
-  refused_outside phase old p n e g = outside_at (Answers phase) w old n p l (subst (Reads w items) e s) g
+  refused_outside phase old e n f g =
+      let o = letter_refused w items e (subst (Reads w items) f s) in
+      outside_at (Answers phase) w old n (place e) l o.1 (g ∙ ap (λ (k : ℕ). refused k (place e)) o.0)
 
-  module _ (r : Reading) (e : x ≡ Read.Word r) where
-    reads : Reads w items (Read.Word r)
+  module _ (r : Reading) (e : x ≡ Ok r) where
+    reads : Reads w items (Ok r)
     reads = subst (Reads w items) e s
 
     pub readable : Readable items r

@@ -8,7 +8,7 @@ ghost use Rattle.normal_form.specs.Answers.{Answers, WritesReading};
 
 use exact::Refusal;
 use reading::table::Table;
-use reading::{EMPTY, Read, Reading};
+use reading::{EMPTY, Reading};
 use table::TABLE;
 
 mod table;
@@ -62,10 +62,8 @@ fn read_and_write(
     requires places { (length word.now ≤ 4096) × (length word.now ≤ length items.old) }
     ensures { WordOutcome (Answers phase) word.now buf.old (written result) buf.new }
 {
-    match reading::read_word(table, items, word) {
-        Read::Outside(place) => Err(Refusal::Letter(place)),
-        Read::Word(r) => write(table, items, r, phase, buf),
-    }
+    let r = reading::read_word(table, items, word)?;
+    write(table, items, r, phase, buf)
 }
 
 // Jobs 3 and 5: with the W letters of the tail, or without.

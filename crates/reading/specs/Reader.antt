@@ -1,15 +1,15 @@
 -- The reader's turns over a word: what is known at a place, and what one letter or two more make of it. Assumes nothing.
-use Rattle.std.specs.Prelude.{◌≡◌, refl, List, [], ◌∷◌, ℕ, ◌+◌, ◌≤◌, ◌<◌, length, take, get_or}
+use Rattle.std.specs.Prelude.{◌≡◌, refl, List, [], ◌∷◌, ℕ, ◌+◌, ◌≤◌, ◌<◌, length, take, get_or, Ok, Err}
 use Rattle.std.proofs.Common.{sym, ◌∙◌, ap, ap₂, subst, add-one, arith, take-suc, take_all}
-use Rattle.exact.specs.Meaning.Word.{I, FirstOutside}
+use Rattle.exact.specs.declared.Refusal.{Refusal}
+use Rattle.exact.specs.Meaning.Word.{I}
 use Rattle.exact.specs.Cases.Letters.{letter_of, letters_of, Inside}
 use Rattle.exact.proofs.Cases.Letters.{letters_of_append, inside_none, inside_more}
-use Rattle.reading.specs.declared.Read.TheVariants as Read
 use Rattle.reading.specs.declared.Reading.{Reading}
 use Rattle.reading.specs.Held.{Blank, Holds, Readable, Steps, pair, count_few}
-use Rattle.reading.specs.Letters.{Reads, numbered_in, numbered_at, numbered_out}
+use Rattle.reading.specs.Letters.{Reads, NumberOf, NumberAt, numbered_in, numbered_at}
 use Rattle.reading.specs.Readings.{State, start, read, run, run_append}
-use Rattle.reading.specs.Steps.{letter_at, number_of}
+use Rattle.reading.specs.Steps.{letter_at}
 
 -- what the letters before a place are read as
 abbrev read_to : List ℕ → ℕ → State
@@ -55,9 +55,8 @@ upto_none w items b = record { within = omega arith; same = refl; inside = insid
           fits = record { code_few = omega arith; phase_few = omega arith };
         }
 
--- n is the number of the byte at place i
-abbrev pub Numbered : List ℕ → ℕ → ℕ → Type 0
-Numbered w i n = n ≡ number_of (get_or w i 0)
+pub upto_at : {w old items : List ℕ} {r : Reading} {i j : ℕ} → Upto w old items r i → i ≡ j → Upto w old items r j
+upto_at {w} {old} {items} {r} u e = subst (λ (k : ℕ). Upto w old items r k) e u
 
 module _ {w old items : List ℕ} {r : Reading} {i : ℕ} (u : Upto w old items r i) where
   pub readable : Readable items r
@@ -66,58 +65,52 @@ module _ {w old items : List ℕ} {r : Reading} {i : ℕ} (u : Upto w old items 
   pub room : i < length w → length w ≤ 4096 → length w ≤ length old → (r.count < length items) × (r.count < 4096)
   room l m k = let few = count_few items r w i u.held u.within in (omega arith, omega arith)
 
-  one_inside : {n : ℕ} → Numbered w i n → n ≤ 5 → Inside w (i + 1)
-  one_inside {n} e h = inside_more w i u.inside (numbered_in (get_or w i 0) n e h)
+  one_inside : {n : ℕ} → NumberOf (get_or w i 0) n → Inside w (i + 1)
+  one_inside {n} p = inside_more w i u.inside (numbered_in (get_or w i 0) n p.is p.few)
 
   -- a byte that is no letter
-  pub first_outside : {n : ℕ} → i < length w → Numbered w i n → 5 < n → FirstOutside w i
-  first_outside {n} l e h = record { there = l; outside = numbered_out (get_or w i 0) n e h; before = u.inside }
+  pub first_refused : (new : List ℕ) {e : Refusal} → i < length w → NumberAt w i (Err e) → Reads w new (Err e)
+  first_refused new l p = rw p.0 (record { there = l; outside = p.1; before = u.inside })
 
-  pub second_outside : {n m : ℕ}
-      → i + 1 < length w
-      → Numbered w i n
-      → n ≤ 5
-      → Numbered w (i + 1) m
-      → 5 < m
-      → FirstOutside w (i + 1)
-  second_outside {n} {m} l e h f k =
-      record { there = l; outside = numbered_out (get_or w (i + 1) 0) m f k; before = one_inside e h }
+  pub second_refused : {n : ℕ} (new : List ℕ) {e : Refusal} → i + 1 < length w → NumberOf (get_or w i 0) n → NumberAt w (i + 1) (Err e)
+      → Reads w new (Err e)
+  second_refused {n} new l f p = rw p.0 (record { there = l; outside = p.1; before = one_inside f })
 
   -- two letters more
-  pub upto_two : {n m : ℕ} {new : List ℕ} {s : Reading}
+  pub upto_two : {n m j : ℕ} {new : List ℕ} {s : Reading}
       → i + 1 < length w
-      → Numbered w i n
-      → n ≤ 5
-      → Numbered w (i + 1) m
-      → m ≤ 5
+      → NumberOf (get_or w i 0) n
+      → NumberOf (get_or w (i + 1) 0) m
       → length new ≡ length items
       → Steps (pair (letter_at n) (letter_at m)) items r new s
-      → Upto w old new s (i + 2)
-  upto_two {n} {m} {new} {s} l e h f k z p =
-      record {
+      → j ≡ i + 2
+      → Upto w old new s j
+  upto_two {n} {m} {j} {new} {s} l f g z p e = rw e
+      (record {
         within = omega arith;
         same = z ∙ u.same;
-        inside = λ j a. inside_more w (i + 1) (one_inside e h) (numbered_in (get_or w (i + 1) 0) m f k) j (omega arith);
+        inside = λ j a. inside_more w (i + 1) (one_inside f) (numbered_in (get_or w (i + 1) 0) m g.is g.few) j (omega arith);
         held =
             subst (Holds new s)
-            (ap₂ (λ x y. pair x y (read_to w i)) (numbered_at (get_or w i 0) n e h) (numbered_at (get_or w (i + 1) 0) m f k) ∙ sym (run_pair w i l))
+            (ap₂ (λ x y. pair x y (read_to w i)) (numbered_at (get_or w i 0) n f.is f.few) (numbered_at (get_or w (i + 1) 0) m g.is g.few)
+            ∙ sym (run_pair w i l))
             (p.step (read_to w i) u.held);
-      }
+      })
 
   -- the last letter of an odd number
   pub read_last : {n : ℕ} {new : List ℕ} {s : Reading}
       → i < length w
       → length w ≤ i + 1
-      → Numbered w i n
-      → n ≤ 5
+      → NumberOf (get_or w i 0) n
       → Steps (pair (letter_at n) I) items r new s
-      → Reads w new (Read.Word s)
-  read_last {n} {new} {s} l m e h p =
-      (λ j a. one_inside e h j (omega arith), rw (take_all (i + 1) w m) at held)
+      → Reads w new (Ok s)
+  read_last {n} {new} {s} l m f p =
+      (λ j a. one_inside f j (omega arith), rw (take_all (i + 1) w m) at held)
     where
       held : Holds new s (read_to w (i + 1))
       held =
-          subst (Holds new s) (ap (λ x. read x (read_to w i)) (numbered_at (get_or w i 0) n e h) ∙ sym (run_more w i l)) (p.step (read_to w i) u.held)
+          subst (Holds new s) (ap (λ x. read x (read_to w i)) (numbered_at (get_or w i 0) n f.is f.few) ∙ sym (run_more w i l))
+          (p.step (read_to w i) u.held)
 
-  pub read_all : length w ≤ i → Reads w items (Read.Word r)
+  pub read_all : length w ≤ i → Reads w items (Ok r)
   read_all l = (λ j a. u.inside j (omega arith), rw (take_all i w l) at u.held)

@@ -1,6 +1,6 @@
 -- The table of two letters, of syllables that a T meets, of Cliffords less their axes and of the letters' numbers: each part proved right
 -- by one computed test over its rows. Assumes nothing.
-use Rattle.std.specs.Prelude.{◌≡◌, refl, Bool, true, false, cond, ◌&&◌, List, ℕ, zero, suc, ◌+◌, ◌-◌, ◌*◌, ◌/◌, ◌%◌, ◌<◌, ◌≤◌, T, ltb, eqb, get_or, length}
+use Rattle.std.specs.Prelude.{◌≡◌, refl, Bool, true, false, cond, ◌&&◌, List, ℕ, zero, suc, ◌+◌, ◌-◌, ◌*◌, ◌/◌, ◌%◌, ◌<◌, ◌≤◌, T, ltb, eqb, get_or, length, Option, Some, None}
 use Rattle.std.proofs.Common.{sym, ◌∙◌, ap, subst, arith, eqb-true, ne_eqb, ltb→lt, eqb→eq, Fits as FitsIn}
 use Rattle.std.proofs.Math.Facts.{and_yes}
 use Rattle.std.specs.Int.{w8}
@@ -53,6 +53,10 @@ number_few I = omega arith
 -- a byte's number: that of its letter, and 6 where it is none
 abbrev pub number_of : ℕ → ℕ
 number_of b = cond (eqb (byte (letter_of b)) b) (letter_number (letter_of b)) 6
+
+-- the same, none in place of 6
+abbrev pub numbered : ℕ → Option ℕ
+numbered b = cond (eqb (number_of b) 6) None (Some (number_of b))
 
 -- ---- a Clifford by its code and its phase
 abbrev pub clifford_at : ℕ → ℕ → Clifford
@@ -347,3 +351,32 @@ number_low b h = number_out b (λ l. omega (arith, l.is, (byte_within l.letter_t
 
 pub number_high : (b : ℕ) → 88 < b → 6 ≡ number_of b
 number_high b h = number_out b (λ l. omega (arith, l.is, (byte_within l.letter_there).1))
+
+pub number_few_of : (b : ℕ) → number_of b ≤ 6
+number_few_of b = go (eqb (byte (letter_of b)) b)
+  where
+    go : (t : Bool) → cond t (letter_number (letter_of b)) 6 ≤ 6
+    go true = omega (arith, number_few (letter_of b))
+    go false = omega arith
+
+abbrev told : ℕ → Option ℕ
+told n = cond (eqb n 6) None (Some n)
+
+pub number_under : (b : ℕ) → b < 72 → None ≡ numbered b
+number_under b h = ap told (number_low b h)
+
+pub number_over : (b : ℕ) → 88 < b → None ≡ numbered b
+number_over b h = ap told (number_high b h)
+
+module _ (rows : List ℕ) (right : Right rows) (b : ℕ) (l : 72 ≤ b) (h : b ≤ 88) where
+  abbrev entry : ℕ
+  entry = get_or rows (648 + (b - 72)) 0
+
+  pub number_none : 5 < entry → None ≡ numbered b
+  number_none k =
+      let is : entry ≡ number_of b = number_in rows right b l h in
+      let six : 6 ≡ number_of b = omega (arith, is, number_few_of b) in
+      ap told six
+
+  pub number_some : entry ≤ 5 → Some entry ≡ numbered b
+  number_some k = ap (λ (t : Bool). cond t None (Some entry)) (sym (ne_eqb entry 6 (omega arith))) ∙ ap told (number_in rows right b l h)

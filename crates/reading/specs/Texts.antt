@@ -1,11 +1,11 @@
 -- A reading whole: syllables and a Clifford in the program's array, and how many bytes the text of it all takes. Assumes nothing.
-use Rattle.std.specs.Prelude.{◌≡◌, refl, Bool, true, false, List, ℕ, zero, suc, ◌+◌, ◌≤◌, ◌<◌, eqb, length}
-use Rattle.std.proofs.Common.{sym, ◌∙◌, ap, ap₂, arith, eqb-true}
-use Rattle.std.proofs.lemmas.Bool.{false≢true, eqb-false}
+use Rattle.std.specs.Prelude.{◌≡◌, refl, Bool, true, false, List, ℕ, zero, suc, ◌+◌, ◌≤◌, ◌<◌, eqb, ltb, length, Result, Ok, Err}
+use Rattle.std.proofs.Common.{sym, ◌∙◌, ap, ap₂, arith, eqb-true, ltb-true}
+use Rattle.std.proofs.lemmas.Bool.{eqb-false}
+use Rattle.exact.specs.declared.Refusal.{Refusal}
 use Rattle.exact.specs.Meaning.Outcome.{Decides}
 use Rattle.exact.specs.Meaning.Word.{Letter, I}
 use Rattle.clifford.specs.declared.Clifford.{Clifford}
-use Rattle.reading.specs.declared.Added.{Added}
 use Rattle.reading.specs.declared.Text.{Text}
 use Rattle.reading.specs.declared.Reading.{Reading}
 use Rattle.reading.specs.declared.steps.Step.{Step}
@@ -60,15 +60,16 @@ moved_few e l h p =
 
 -- ---- a letter
 -- no place is left for a syllable, or the letter is read
-abbrev pub AddsLetter : Letter → List ℕ → Text → List ℕ → Added → Type 0
-AddsLetter l old r new Added.Full = (new ≡ old) × ((st : State) → HoldsText old r st → length old < size_of (read l st))
-AddsLetter l old r new (Added.Letter n) = StepsText (read l) old r new n
+abbrev pub AddsLetter : Letter → List ℕ → Text → List ℕ → Result Text Refusal → Type 0
+AddsLetter l old r new (Err e) =
+    (e ≡ Refusal.Full) × ((new ≡ old) × ((st : State) → HoldsText old r st → length old < size_of (read l st)))
+AddsLetter l old r new (Ok n) = StepsText (read l) old r new n
 
 pub place_asked : {kind count places : ℕ} → 1 < kind → Decides ((1 < kind) × (count ≡ places)) (eqb count places)
 place_asked {kind} {count} {places} l = record { yes = λ e. (l, eqb-true count places e); no = λ e h. eqb-false count places e h.1 }
 
-pub no_place_asked : {kind count places : ℕ} → kind ≤ 1 → Decides ((1 < kind) × (count ≡ places)) false
-no_place_asked l = record { yes = λ e. absurd (false≢true e); no = λ e h. omega (arith, h.0) }
+pub no_place_asked : {kind count places : ℕ} → kind ≤ 1 → Decides ((1 < kind) × (count ≡ places)) (ltb 1 kind)
+no_place_asked {kind} l = record { yes = λ e. absurd (omega (arith, ltb-true 1 kind e)); no = λ e h. omega (arith, h.0) }
 
 -- a syllable that is added is one more
 added_size : (kind : ℕ) (q : Clifford) (st : State) → 1 < kind → size_of (by_kind kind q st) ≡ suc (size_of st)
@@ -81,12 +82,15 @@ abbrev Lacks : List ℕ → Text → Step → Type 0
 Lacks items r s = (1 < s.kind) × (r.reading.count ≡ length items)
 
 module _ {l : Letter} {old : List ℕ} {r : Text} {s : Step} (w : Stepped l I r.reading.tail s) where
-  pub full : {b : Bool} → Decides (Lacks old r s) b → b ≡ true → AddsLetter l old r old Added.Full
+  pub full : {b : Bool} → Decides (Lacks old r s) b → b ≡ true → AddsLetter l old r old (Err Refusal.Full)
   full d e =
       let lacks = d.yes e in (
         refl,
-        λ st h.
-            omega (arith, lacks.1, count_is h.holds, added_size s.kind (tail_of s.tail) st lacks.0, ap size_of (pair_is w st h.holds)),
+        (
+          refl,
+          λ st h.
+              omega (arith, lacks.1, count_is h.holds, added_size s.kind (tail_of s.tail) st lacks.0, ap size_of (pair_is w st h.holds)),
+        ),
       )
 
   pub placed : {b : Bool} → ReadableText old r → length old ≡ 4096 → Decides (Lacks old r s) b → b ≡ false → Placed old r.reading s.kind
@@ -97,5 +101,5 @@ module _ {l : Letter} {old : List ℕ} {r : Text} {s : Step} (w : Stepped l I r.
       record { some = omega arith; few = omega arith; kinds = kind_most w; place = λ k. (place k, omega (arith, place k)) }
 
   pub added : {new : List ℕ} {t : Reading} {n : Text} → Steps (by_kind s.kind (tail_of s.tail)) old r.reading new t → n ≡ whole_of t
-      → AddsLetter l old r new (Added.Letter n)
+      → AddsLetter l old r new (Ok n)
   added p e = whole_steps (follows w p) e

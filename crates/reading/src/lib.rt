@@ -8,10 +8,11 @@ ghost use Rattle.reading.specs.Steps.{letter_at, Fits, tail_of};
 ghost use Rattle.reading.specs.Syllables.{syllable_of};
 ghost use Rattle.reading.specs.Held.{Blank, Readable, Steps, Pushed, Popped, Placed, cancelled, by_kind, pair};
 ghost use Rattle.reading.specs.Texts.{whole_of, Few, ReadableText, AddsLetter};
-ghost use Rattle.reading.specs.Letters.{Reads};
+ghost use Rattle.reading.specs.Letters.{Reads, NumberAt};
 
 use crate::steps::Tail;
 use crate::table::{IDENTITY, Table};
+use exact::Refusal;
 
 pub mod steps;
 pub mod table;
@@ -42,20 +43,6 @@ pub struct Reading {
 pub struct Text {
     pub reading: Reading,
     pub bytes: usize,
-}
-
-// A word's reading, or the first place of a byte that is no letter.
-#[derive(Clone, Copy)]
-pub enum Read {
-    Word(Reading),
-    Outside(usize),
-}
-
-// A text with a letter more, or that there is no place for the syllable it needs.
-#[derive(Clone, Copy)]
-pub enum Added {
-    Letter(Text),
-    Full,
 }
 
 impl Syllable {
@@ -174,14 +161,11 @@ fn change(table: Table, items: &mut [u8], r: Reading, kind: u8, rest: Tail) -> R
 fn lacks_place(kind: u8, count: usize, places: usize) -> bool
     ensures { Decides ((1 < kind) × (count ≡ places)) result }
 {
-    if kind > 1 {
-        return count == places;
-    }
-    false
+    kind > 1 && count == places
 }
 
 // One letter more, by its number, in an array that may be full.
-pub fn append_gate(table: Table, items: &mut [u8], r: Text, letter: u8) -> Added
+pub fn append_gate(table: Table, items: &mut [u8], r: Text, letter: u8) -> Result<Text, Refusal>
     requires readable { ReadableText items.old r }
     requires places { length items.old ≡ 4096 }
     requires letter_few { letter < 6 }
@@ -192,15 +176,23 @@ pub fn append_gate(table: Table, items: &mut [u8], r: Text, letter: u8) -> Added
     let step = tail.step(table, letter, IDENTITY);
     let kind = step.kind;
     if lacks_place(kind, reading.count, items.len()) {
-        return Added::Full;
+        return Err(Refusal::Full);
     }
     let rest = step.tail;
     let next = change(table, items, reading, kind, rest);
-    Added::Letter(next.whole(table))
+    Ok(next.whole(table))
 }
 
-// The reading of a word, in an array that is empty, with a place for each letter.
-pub fn read_word(table: Table, items: &mut [u8], word: &[u8]) -> Read
+// The number of the letter at a place.
+fn number_at(table: Table, word: &[u8], at: usize) -> Result<u8, Refusal>
+    requires { at < length word.now }
+    ensures { NumberAt word.now at result }
+{
+    table.number(word[at]).ok_or(Refusal::Letter(at))
+}
+
+// The reading of a word, in an array that is empty, with a place for each letter: two letters at a time, and a last one beside I.
+pub fn read_word(table: Table, items: &mut [u8], word: &[u8]) -> Result<Reading, Refusal>
     requires blank { Blank items.old }
     requires places { (length word.now ≤ 4096) × (length word.now ≤ length items.old) }
     ensures { Reads word.now items.new result }
@@ -210,25 +202,15 @@ pub fn read_word(table: Table, items: &mut [u8], word: &[u8]) -> Read
         bytes: 0,
         tail: Tail { code: 0, phase: 0 },
     };
-    let mut i: usize = 0;
-    while i + 1 < word.len() {
-        let first = table.number(word[i]);
-        if first > IDENTITY {
-            return Read::Outside(i);
-        }
-        let second = table.number(word[i + 1]);
-        if second > IDENTITY {
-            return Read::Outside(i + 1);
-        }
+    let pairs = word.len() / 2;
+    for i in 0..pairs {
+        let first = number_at(table, word, 2 * i)?;
+        let second = number_at(table, word, 2 * i + 1)?;
         r = append_gates(table, items, r, first, second);
-        i += 2;
     }
-    if i < word.len() {
-        let first = table.number(word[i]);
-        if first > IDENTITY {
-            return Read::Outside(i);
-        }
-        r = append_gates(table, items, r, first, IDENTITY);
+    if 2 * pairs < word.len() {
+        let last = number_at(table, word, 2 * pairs)?;
+        r = append_gates(table, items, r, last, IDENTITY);
     }
-    Read::Word(r)
+    Ok(r)
 }

@@ -1,6 +1,6 @@
 // The table that letters are looked up in (crate `normal_form` has it), and the letters' numbers.
 ghost use Rattle.std.specs.Prelude.{◌≡◌};
-ghost use Rattle.reading.specs.Steps.{Right, number_of};
+ghost use Rattle.reading.specs.Steps.{Right, numbered};
 
 // The table as it is lent: what it says is right.
 #[derive(Clone, Copy)]
@@ -12,21 +12,19 @@ pub struct Table<'a> {
 // H, S, X, W and T are 0 to 4 in the table, and I is 5, as is a second letter that is not there.
 pub const IDENTITY: u8 = 5;
 
-// A byte that is no letter.
-const OUTSIDE: u8 = 6;
-
 const LETTERS: usize = 648;
 
 impl Table<'_> {
-    pub fn number(self, b: u8) -> u8
-        ensures { result ≡ number_of b }
+    // The number of a letter, which is no enum: the rows of the table go by it.
+    pub fn number(self, b: u8) -> Option<u8>
+        ensures { result ≡ numbered b }
     {
-        if b < 72 {
-            return OUTSIDE;
+        match b {
+            b'H'..=b'X' => {
+                let n = self.bytes[LETTERS + (b - b'H') as usize];
+                if n > IDENTITY { None } else { Some(n) }
+            }
+            _ => None,
         }
-        if b > 88 {
-            return OUTSIDE;
-        }
-        self.bytes[LETTERS + (b - 72) as usize]
     }
 }

@@ -186,33 +186,38 @@ fn coset<W: Write>(out: &mut W, t: Triple) -> io::Result<()> {
     parts(out, rest)
 }
 
-fn of_record<W: Write>(out: &mut W, job: u8, payload: &[u8], lent: &mut [u8]) -> io::Result<()> {
-    let Ok(t) = record::read(payload) else {
-        return text(out, b"no record");
-    };
-    match job {
-        b'1' => reduce(out, t),
-        b'4' => synthesise(out, t, lent),
-        b'T' => t_count(out, t),
-        b'A' => rotate(out, t),
-        b'P' => product(out, t),
-        b'I' => inverse(out, t),
-        b'C' => coset(out, t),
-        _ => text(out, b"no job"),
+// The job of a bench record's triple.
+fn of_record<W: Write, F: FnOnce(&mut W, Triple) -> io::Result<()>>(
+    out: &mut W,
+    payload: &[u8],
+    job: F,
+) -> io::Result<()>
+    requires { F.IsAlwaysCallable job }
+{
+    match record::read(payload) {
+        Ok(t) => job(out, t),
+        Err(_) => text(out, b"no record"),
     }
 }
 
 // The payload of 2, 3, 5, Q and G is a word, that of R a circuit's text, that of S and L a slot, that of the others a bench record.
 pub fn answer<W: Write>(out: &mut W, job: u8, payload: &[u8], lent: &mut [u8]) -> io::Result<()> {
     match job {
+        b'1' => of_record(out, payload, reduce),
         b'2' => from_gates(out, payload),
         b'3' => normalise(out, payload, lent),
+        b'4' => of_record(out, payload, |out, t| synthesise(out, t, lent)),
         b'5' => phase_free(out, payload, lent),
+        b'T' => of_record(out, payload, t_count),
+        b'A' => of_record(out, payload, rotate),
+        b'P' => of_record(out, payload, product),
+        b'I' => of_record(out, payload, inverse),
+        b'C' => of_record(out, payload, coset),
         b'Q' => write_circuit(out, Edition::Two, payload, lent),
         b'G' => write_circuit(out, Edition::Three, payload, lent),
         b'R' => read_circuit(out, payload, lent),
-        b'S' => slots::answer(out, job, payload, lent.len()),
-        b'L' => slots::answer(out, job, payload, lent.len()),
-        _ => of_record(out, job, payload, lent),
+        b'S' => slots::answer(out, payload, lent.len(), slots::add),
+        b'L' => slots::answer(out, payload, lent.len(), slots::length),
+        _ => of_record(out, payload, |out, _| text(out, b"no job")),
     }
 }

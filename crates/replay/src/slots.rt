@@ -58,14 +58,14 @@ fn written<W: Write>(
     text(out, to_last(&syllables.map(digit)))
 }
 
-fn add<W: Write>(out: &mut W, t: Triple, digits: &[u8]) -> io::Result<()> {
+pub fn add<W: Write>(out: &mut W, t: Triple, digits: &[u8]) -> io::Result<()> {
     let mut syllables = codes(digits);
     let mut rest = rest_of(t);
     let answer = slot::add(t.n, &mut syllables, &mut rest);
     written(out, answer, &syllables, &rest)
 }
 
-fn length<W: Write>(out: &mut W, t: Triple, digits: &[u8]) -> io::Result<()> {
+pub fn length<W: Write>(out: &mut W, t: Triple, digits: &[u8]) -> io::Result<()> {
     let syllables = codes(digits);
     let rest = rest_of(t);
     let answer = slot::length(&syllables, &rest);
@@ -73,15 +73,19 @@ fn length<W: Write>(out: &mut W, t: Triple, digits: &[u8]) -> io::Result<()> {
 }
 
 // The payload has a digit for each code, as many as the room says, and behind them a bench record.
-pub fn answer<W: Write>(out: &mut W, job: u8, payload: &[u8], room: usize) -> io::Result<()> {
+pub fn answer<W: Write, F: FnOnce(&mut W, Triple, &[u8]) -> io::Result<()>>(
+    out: &mut W,
+    payload: &[u8],
+    room: usize,
+    job: F,
+) -> io::Result<()>
+    requires { F.IsAlwaysCallable job }
+{
     let Some((digits, rest)) = payload.split_at_checked(room) else {
         return Ok(());
     };
-    let Ok(t) = record::read(rest) else {
-        return text(out, b"no record");
-    };
-    match job {
-        b'S' => add(out, t, digits),
-        _ => length(out, t, digits),
+    match record::read(rest) {
+        Ok(t) => job(out, t, digits),
+        Err(_) => text(out, b"no record"),
     }
 }

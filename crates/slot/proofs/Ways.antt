@@ -1,6 +1,6 @@
 -- The ways out of the two calls: a lemma for each, over plain values. Assumes nothing.
-use Rattle.std.specs.Prelude.{◌≡◌, refl, List, [], ◌∷◌, ℕ, ◌≤◌, ◌<◌, length}
-use Rattle.std.proofs.Common.{◌∙◌, ap, ap₂, subst, arith}
+use Rattle.std.specs.Prelude.{◌≡◌, refl, List, [], ◌∷◌, ℕ, ◌≤◌, ◌<◌, length, Option, Some, None, Result, Ok, Err}
+use Rattle.std.proofs.Common.{sym, ◌∙◌, ap, ap₂, subst, arith}
 use Rattle.exact.specs.Meaning.Word.{Letter, byte, IsLetter}
 use Rattle.exact.specs.Meaning.Normal.{Shape, spell, Normal}
 use Rattle.exact.specs.Meaning.Limits as Limits
@@ -10,13 +10,14 @@ use Rattle.exact.proofs.Cases.Letters.{byte_inj, letter_back}
 use Rattle.exact.proofs.Matrices.Same.{Same-of}
 use Rattle.clifford.specs.declared.Clifford.{Clifford}
 use Rattle.clifford.specs.Meaning.{Ranged}
-use Rattle.reading.specs.declared.Added.{Added}
+use Rattle.exact.specs.declared.Refusal.{Refusal}
+use Rattle.exact.specs.Meaning.Handed.{number}
 use Rattle.reading.specs.declared.Text.{Text}
 use Rattle.reading.specs.Readings.{State, read, read_ranged, shape_of, size_of, text_size, fits}
-use Rattle.reading.specs.Steps.{tail_of, letter_at, number_of}
+use Rattle.reading.specs.Steps.{tail_of, letter_at, numbered}
 use Rattle.reading.specs.Held as Held
 use Rattle.reading.specs.Held.{count_is}
-use Rattle.reading.specs.Letters.{numbered_in, numbered_at, numbered_out}
+use Rattle.reading.specs.Letters.{NumberOf, letter_number_of, no_letter, numbered_in, numbered_at}
 use Rattle.reading.specs.Texts.{HoldsText, ReadableText, AddsLetter}
 use Rattle.slot.specs.declared.Answer.{Answer}
 use Rattle.slot.specs.declared.told.Told.{Told}
@@ -36,6 +37,9 @@ standing_readable h = record { st = h.st; holds = h.holds }
 
 pub number_few : {n : ℕ} → n ≤ 5 → n < 6
 number_few l = omega arith
+
+pub letter_few : (b : ℕ) {n : ℕ} {o : Option ℕ} → o ≡ numbered b → o ≡ Some n → n ≤ 5
+letter_few b e l = (letter_number_of b (sym e ∙ l)).few
 
 -- ---- the length
 pub length_wrong : {r : Slot} {t : Told} {a : Answer} → Tells r t → t ≡ Told.Wrong → a ≡ refused Limits.slot_refusal → LengthOutcome r a
@@ -63,9 +67,9 @@ six_is {items} {x} {st} h =
     q : Clifford
     q = tail_of x.reading.tail
 
-module _ (number : ℕ) {items rest : List ℕ} {x : Text} (h : Standing (slot_of items rest) x) (e : length items ≡ 4096) where
+module _ (n : ℕ) {items rest : List ℕ} {x : Text} (h : Standing (slot_of items rest) x) (e : length items ≡ 4096) where
   abbrev l : Letter
-  l = letter_at number
+  l = letter_at n
 
   abbrev st : State
   st = h.st
@@ -73,13 +77,14 @@ module _ (number : ℕ) {items rest : List ℕ} {x : Text} (h : Standing (slot_o
   abbrev next : State
   next = read l st
 
-  pub no_place : {new : List ℕ} {t : Added} {a : Answer} → AddsLetter (letter_at number) items x new t → t ≡ Added.Full → a ≡ refused Limits.full_refusal
-      → MoreOutcome number (slot_of items rest) (left a (slot_of new rest))
-  no_place {new} {t} {a} n w f =
-      Rung.given 0 (over, refl) (ap₂ (λ (y : Answer) (s : List ℕ). left y (slot_of s rest)) f p.0)
+  pub no_place : {new : List ℕ} {t : Result Text Refusal} {e : Refusal} {m : ℕ} {a : Answer} → AddsLetter (letter_at n) items x new t → t ≡ Err e
+      → m ≡ number e → a ≡ refused m
+      → MoreOutcome n (slot_of items rest) (left a (slot_of new rest))
+  no_place {new} {t} {e} {m} {a} q w g f =
+      Rung.given 0 (over, refl) (ap₂ (λ (y : Answer) (s : List ℕ). left y (slot_of s rest)) (f ∙ ap refused (g ∙ ap number p.0)) p.1.0)
     where
-      p : AddsLetter l items x new Added.Full
-      p = subst (AddsLetter l items x new) w n
+      p : AddsLetter l items x new (Err e)
+      p = subst (AddsLetter l items x new) w q
 
       over : Overfull (byte l) (slot_of items rest)
       over =
@@ -90,12 +95,12 @@ module _ (number : ℕ) {items rest : List ℕ} {x : Text} (h : Standing (slot_o
             n' = shape_of next;
             shows = h.shows;
             next = read_next l st h.ranged;
-            more = omega (arith, state_size next, p.1 st h.holds);
+            more = omega (arith, state_size next, p.1.1 st h.holds);
           }
 
-  module _ (new : List ℕ) {t : Added} (p : AddsLetter (letter_at number) items x new t) {y : Text} (w : t ≡ Added.Letter y)
+  module _ (new : List ℕ) {t : Result Text Refusal} (p : AddsLetter (letter_at n) items x new t) {y : Text} (w : t ≡ Ok y)
       (g : length new ≡ length items) {six' : List ℕ} (s : six' ≡ six y) where
-    steps : AddsLetter l items x new (Added.Letter y)
+    steps : AddsLetter l items x new (Ok y)
     steps = subst (AddsLetter l items x new) w p
 
     held : HoldsText new y next
@@ -113,7 +118,7 @@ module _ (number : ℕ) {items rest : List ℕ} {x : Text} (h : Standing (slot_o
         let form = over_form l st h.ranged h.shows o (byte_inj o.l l o.is) in
         omega (arith, o.more, ap (λ (n : Shape). length (codes n)) form, shown.few)
 
-    pub one_added : MoreOutcome number (slot_of items rest) (left (record { refusal = no_refusal; length = y.bytes }) (slot_of new six'))
+    pub one_added : MoreOutcome n (slot_of items rest) (left (record { refusal = no_refusal; length = y.bytes }) (slot_of new six'))
     one_added =
         Rung.passed (λ q o. not_over o.0)
         (record {
@@ -135,20 +140,23 @@ module _ (b : ℕ) {r : Slot} where
   pub add_wrong : {t : Told} {a : Answer} → Tells r t → t ≡ Told.Wrong → a ≡ refused Limits.slot_refusal → AddOutcome b r (left a r)
   add_wrong n w e = Rung.given 0 (subst (Tells r) w n, refl) (ap (λ (y : Answer). left y r) e)
 
-  module _ {t : Told} {x : Text} (k : Tells r t) (w : t ≡ Told.Right x) {n : ℕ} (e : n ≡ number_of b) where
-    pub add_outside : {a : Answer} → 5 < n → a ≡ refused Limits.letter_refusal → AddOutcome b r (left a r)
+  module _ {t : Told} {x : Text} (k : Tells r t) (w : t ≡ Told.Right x) {o : Option ℕ} (e : o ≡ numbered b) where
+    pub add_outside : {a : Answer} → o ≡ None → a ≡ refused Limits.letter_refusal → AddOutcome b r (left a r)
     add_outside l f =
         Rung.passed (λ p g. g.0 (standing_given (told_right k w)))
-        (Rung.given 0 (numbered_out b n e l, refl) (ap (λ (y : Answer). left y r) f))
+        (Rung.given 0 (no_letter b (sym e ∙ l), refl) (ap (λ (y : Answer). left y r) f))
 
-    pub add_more : {z : Left} → n ≤ 5 → MoreOutcome n r z → AddOutcome b r z
-    add_more {z} l o =
+    pub add_more : {n : ℕ} {z : Left} → o ≡ Some n → MoreOutcome n r z → AddOutcome b r z
+    add_more {n} {z} l m =
         Rung.passed (λ p g. g.0 (standing_given (told_right k w)))
         (Rung.passed (λ p g. g.0 inside)
-        (subst (λ (c : ℕ). Outcome (λ m p. left (refused m) r) (Extended c r) (full c r then none) z) same o))
+        (subst (λ (c : ℕ). Outcome (λ m p. left (refused m) r) (Extended c r) (full c r then none) z) same m))
       where
+        of : NumberOf b n
+        of = letter_number_of b (sym e ∙ l)
+
         inside : IsLetter b
-        inside = numbered_in b n e l
+        inside = numbered_in b n of.is of.few
 
         same : byte (letter_at n) ≡ b
-        same = ap byte (numbered_at b n e l) ∙ letter_back inside
+        same = ap byte (numbered_at b n of.is of.few) ∙ letter_back inside

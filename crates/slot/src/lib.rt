@@ -7,8 +7,8 @@ ghost use Rattle.slot.specs.Meaning.{slot_of, refused, left, LengthOutcome, AddO
 ghost use Rattle.slot.specs.Standing.{Standing};
 ghost use Rattle.slot.specs.Ways.{MoreOutcome, six};
 
-use reading::table::{IDENTITY, Table};
-use reading::{Added, Text};
+use reading::Text;
+use reading::table::Table;
 use told::Told;
 
 mod told;
@@ -54,8 +54,8 @@ fn add_right(table: Table, number: u8, r: Text, syllables: &mut [u8], rest: &mut
     ensures { MoreOutcome number (slot_of syllables.old rest.old) (left result (slot_of syllables.new rest.new)) }
 {
     match reading::append_gate(table, syllables, r, number) {
-        Added::Full => refused(exact::FULL),
-        Added::Letter(next) => {
+        Err(e) => refused(e.number()),
+        Ok(next) => {
             put_rest(next, rest);
             Answer {
                 refusal: exact::ACCEPTED,
@@ -73,10 +73,9 @@ pub fn add(letter: u8, syllables: &mut [u8; 4096], rest: &mut [u64; 6]) -> Answe
     match told::check(table, syllables, rest) {
         Told::Wrong => refused(exact::SLOT),
         Told::Right(r) => {
-            let number = table.number(letter);
-            if number > IDENTITY {
+            let Some(number) = table.number(letter) else {
                 return refused(exact::LETTER);
-            }
+            };
             add_right(table, number, r, syllables, rest)
         }
     }

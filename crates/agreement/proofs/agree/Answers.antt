@@ -3,4 +3,4 @@ use Rattle.agreement.proofs.AgreeLaws.{first_there, second_there}
 use Rattle.agreement.proofs.agree.Goals as goal
 
 pub alike-yes-requires : goal.alike-yes-requires
-alike-yes-requires c = record { fact_1 = search first_there; fact_2 = search second_there }
+alike-yes-requires c = record { first_there = search first_there; second_there = search second_there }

@@ -6,5 +6,5 @@ use Rattle.reading.proofs.lacks_place.Goals as goal
 pub returns-then-kind-gt1 : goal.returns-then-kind-gt1
 returns-then-kind-gt1 c = place_asked (omega arith)
 
-pub returns : goal.returns
-returns c = no_place_asked (omega arith)
+pub returns-else-kind-gt1 : goal.returns-else-kind-gt1
+returns-else-kind-gt1 c = no_place_asked (omega arith)

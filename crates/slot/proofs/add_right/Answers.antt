@@ -5,8 +5,8 @@ use Rattle.slot.proofs.add_right.Goals as goal
 pub append_gate-requires : goal.append_gate-requires
 append_gate-requires c = search (standing_readable, number_few)
 
-pub returns-in-Full : goal.returns-in-Full
-returns-in-Full c = search no_place
+pub returns-in-Err : goal.returns-in-Err
+returns-in-Err c = search no_place
 
-pub returns-in-Letter : goal.returns-in-Letter
-returns-in-Letter c = search one_added
+pub returns-in-Ok : goal.returns-in-Ok
+returns-in-Ok c = search one_added
