@@ -1,10 +1,8 @@
 -- The laws by which the writer's functions keep their promises: a line more measured, a line more put. Assumes nothing.
-use Rattle.std.specs.Prelude.{◌≡◌, refl, Bool, true, false, cond, List, [], ◌∷◌, ◌++◌, ℕ, zero, suc, ◌+◌, ◌-◌, ◌*◌, ◌<◌, ◌≤◌, eqb, ltb, length, take, set, get_or, Option, Some, None, Err}
-use Rattle.std.proofs.Common.{sym, ◌∙◌, ap, ap₂, subst, add-one, append-nil, append_assoc, arith, eqb-true, ltb-true, ltb-false, lt-ltb, le-ltb, eq-eqb, ne_eqb, Fits, length-append, length-take-le, take-suc, take_all, get_or-take}
-use Rattle.std.proofs.lemmas.Bool.{eqb-false}
+use Rattle.std.specs.Prelude.{◌≡◌, refl, List, [], ◌∷◌, ◌++◌, ℕ, zero, suc, ◌+◌, ◌*◌, ◌<◌, ◌≤◌, length, take, set, get_or, Option, Some, None, Err}
+use Rattle.std.proofs.Common.{sym, ◌∙◌, ap, ap₂, subst, add-one, append-nil, append_assoc, arith, Fits, length-append, length-take-le, take-suc, take_all, get_or-take}
 use Rattle.std.proofs.lemmas.Option.{none-some, same_Some}
 use Rattle.std.specs.Int.{w8, w64}
-use Rattle.std.proofs.Math.ListN.{get_or-append}
 use Rattle.std.proofs.Math.Seq.{get_or-append_seam}
 use Rattle.exact.specs.Meaning.Word.{Letter, I, H, S, X, W, T', byte, bytes, IsLetter, FirstOutside}
 use Rattle.exact.specs.declared.Refusal.{Refusal}
@@ -14,7 +12,7 @@ use Rattle.exact.proofs.Cases.Letters.{letter_of_byte, letters_of_append, letter
 use Rattle.lent.specs.Written.{Written as Puts, written_both, written_byte, written_length}
 use Rattle.circuit.specs.Meaning.{lines, statement_of, circuit}
 use Rattle.circuit.proofs.Lines.{lines_append, cons_head, cons_tail, bytes_append}
-use Rattle.circuit_writer.specs.Writing.{Spells, size_of, size, SizeIs, letter, no_letter, Measures, PhaseIs, past_phase, MeasureIs}
+use Rattle.circuit_writer.specs.Writing.{Spells, size_of, size, SizeIs, letter, no_letter, Measures, MeasureIs}
 
 -- ---- the size of a line
 pub size_H : {b : ℕ} → b ≡ 72 → SizeIs b (Some 8)
@@ -46,17 +44,6 @@ module _ {b : ℕ} (h : b ≡ 72 → ⊥) (s : b ≡ 83 → ⊥) (t : b ≡ 84 �
       go X e = x (sym e)
       go W e = w (sym e)
       go T' e = t (sym e)
-
--- ---- the place of the first W, one letter on
-pub past_there : (p i b : ℕ) → p < i → p ≡ past_phase p i b
-past_there p i b l = rw (lt-ltb p i l)
-
-module _ (p i b : ℕ) (l : i ≤ p) where
-  pub past_here : b ≡ 87 → i ≡ past_phase p i b
-  past_here e = rw (le-ltb p i l, eq-eqb b 87 e)
-
-  pub past_behind : (b ≡ 87 → ⊥) → i + 1 ≡ past_phase p i b
-  past_behind n = rw (le-ltb p i l, ne_eqb b 87 n)
 
 -- ---- a letter's line
 pub gate_put : (l : List ℕ) (at n : ℕ) {m : List ℕ} {i : ℕ} → Puts (set l at n) (at + 1) (ascii " q[0];\n") m i
@@ -150,47 +137,6 @@ module _ (v : List ℕ) (b : ℕ) where
             ∙ ap size (sym (letters_of_append v (b ∷ [])));
       }
 
-  phase_more : (p : ℕ) → PhaseIs v p → PhaseIs (v ++ (b ∷ [])) (past_phase p (length v) b)
-  phase_more p h = go (ltb p (length v)) refl (eqb b 87) refl
-    where
-      long : length (v ++ (b ∷ [])) ≡ length v + 1
-      long = length-append v (b ∷ [])
-
-      within : (i : ℕ) → i < length v → get_or (v ++ (b ∷ [])) i 0 ≡ get_or v i 0
-      within i l = get_or-append v (b ∷ []) 0 i l
-
-      before : (i : ℕ) → i < p → get_or (v ++ (b ∷ [])) i 0 ≡ byte W → ⊥
-      before i l e = h.before i l (sym (within i (omega (arith, h.upto))) ∙ e)
-
-      last : (i : ℕ) → i ≡ length v → get_or (v ++ (b ∷ [])) i 0 ≡ b
-      last i e = ap (λ k. get_or (v ++ (b ∷ [])) k 0) e ∙ get_or-append_seam v b [] 0
-
-      go : (x : Bool) → ltb p (length v) ≡ x → (y : Bool) → eqb b 87 ≡ y
-          → PhaseIs (v ++ (b ∷ [])) (cond x p (cond y (length v) (length v + 1)))
-      go true e y f =
-          let l : p < length v = ltb-true p (length v) e in
-          record { upto = omega (arith, long); before = before; there = λ k. within p l ∙ h.there l }
-      go false e true f =
-          let l : length v ≤ p = ltb-false p (length v) e in
-          record {
-            upto = omega (arith, long);
-            before = λ i m. before i (omega arith);
-            there = λ k. last (length v) refl ∙ eqb-true b 87 f;
-          }
-      go false e false f =
-          let l : length v ≤ p = ltb-false p (length v) e in
-          record {
-            upto = omega (arith, long);
-            before = λ i m g. past i m g (ltb i p) refl;
-            there = λ k. absurd (omega (arith, long));
-          }
-        where
-          past : (i : ℕ) → i < length v + 1 → get_or (v ++ (b ∷ [])) i 0 ≡ byte W → (z : Bool) → ltb i p ≡ z → ⊥
-          past i m g true q = before i (ltb-true i p q) g
-          past i m g false q =
-              let n : p ≤ i = ltb-false i p q in
-              eqb-false b 87 f (sym (last i (omega (arith, h.upto, ltb-false p (length v) e))) ∙ g)
-
 -- ---- letters of bytes that spell
 pub spells_at : (w : List ℕ) → Spells w → (i : ℕ) → i < length w → IsLetter (get_or w i 0)
 spells_at [] s i l = absurd (omega arith)
@@ -214,23 +160,18 @@ module _ {b : ℕ} {r : Option ℕ} (s : SizeIs b r) where
       go (no_letter o g) = o
 
 -- ---- the first i letters are measured
-pub record Measuring (w : List ℕ) (n p i : ℕ) : Type 0 where
+pub record Measuring (w : List ℕ) (n i : ℕ) : Type 0 where
   pub upto : i ≤ length w
   pub measures : Measures (take i w) n
-  pub phase_is : PhaseIs (take i w) p
 
-pub measuring_none : (w : List ℕ) → Measuring w 0 0 0
+pub measuring_none : (w : List ℕ) → Measuring w 0 0
 measuring_none w =
     record {
       upto = omega arith;
       measures = record { spells = record { is = refl }; is = refl };
-      phase_is = record { upto = omega arith; before = λ i l. absurd (omega arith); there = λ l. absurd (omega arith) };
     }
 
-module _ {w : List ℕ} {n p i : ℕ} (h : Measuring w n p i) where
-  pub measuring_phase : p ≤ i
-  measuring_phase = omega (arith, h.phase_is.upto, length-take-le i w h.upto)
-
+module _ {w : List ℕ} {n i : ℕ} (h : Measuring w n i) where
   module _ {r : Option ℕ} (s : SizeIs (get_or w i 0) r) where
     pub outside_at : i < length w → r ≡ None → FirstOutside w i
     outside_at l g = record { there = l; outside = unsized s g; before = before }
@@ -252,22 +193,15 @@ module _ {w : List ℕ} {n p i : ℕ} (h : Measuring w n p i) where
                 omega (arith, few, h.measures.is, letters_of_length (take i w), length-take-le i w h.upto, there.1.1, size_of_most there.0);
           }
 
-      pub measuring_more : {q : ℕ} → i < length w → q ≡ past_phase p i (get_or w i 0) → Measuring w (n + m) q (i + 1)
-      measuring_more {q} l f =
+      pub measuring_more : i < length w → Measuring w (n + m) (i + 1)
+      measuring_more l =
           record {
             upto = omega arith;
             measures =
                 subst (λ v. Measures v (n + m)) one_more
                 (measures_more (take i w) (get_or w i 0) n m h.measures (record { letter_there = there.0; is = there.1.0 }) is_size);
-            phase_is =
-                subst (λ v. PhaseIs v q) one_more
-                (subst (PhaseIs (take i w ++ (get_or w i 0 ∷ []))) (sym (f ∙ ap (λ k. past_phase p k (get_or w i 0)) (sym long)))
-                (phase_more (take i w) (get_or w i 0) p h.phase_is));
           }
         where
-          long : length (take i w) ≡ i
-          long = length-take-le i w h.upto
-
           one_more : take i w ++ (get_or w i 0 ∷ []) ≡ take (i + 1) w
           one_more = sym (ap (λ k. take k w) (add-one i) ∙ take-suc w i 0 l)
 
@@ -278,9 +212,8 @@ module _ {w : List ℕ} {n p i : ℕ} (h : Measuring w n p i) where
   pub measuring_stops : {r : Option ℕ} → SizeIs (get_or w i 0) r → i < length w → r ≡ None → MeasureIs w (Err (Refusal.Letter i))
   measuring_stops s l e = outside_at s l e
 
-  pub measured : length w ≤ i → Measures w n × PhaseIs w p
-  measured l =
-      (subst (λ v. Measures v n) (take_all i w l) h.measures, subst (λ v. PhaseIs v p) (take_all i w l) h.phase_is)
+  pub measured : length w ≤ i → Measures w n
+  measured l = subst (λ v. Measures v n) (take_all i w l) h.measures
 
 -- ---- the lines of the letters behind `rest` are put
 pub record Lining (old : List ℕ) (start : ℕ) (w buf : List ℕ) (at : ℕ) (rest : List ℕ) : Type 0 where

@@ -7,7 +7,7 @@ ghost use Rattle.exact.specs.Meaning.Word.{IsLetter};
 ghost use Rattle.exact.specs.Cases.Letters.{letter_of, letters_of};
 ghost use Rattle.lent.specs.Written.{Written as Puts};
 ghost use Rattle.circuit.specs.Meaning.{statement_of, circuit, lines};
-ghost use Rattle.circuit_writer.specs.Writing.{Spells, SizeIs, MeasureIs, past_phase, size_of};
+ghost use Rattle.circuit_writer.specs.Writing.{Spells, SizeIs, PhaseIs, MeasureIs, size_of};
 
 use exact::Refusal;
 
@@ -33,27 +33,21 @@ fn line_size(b: u8) -> Option<usize>
     }
 }
 
-// The place of the first W among one letter more, or behind them.
-fn past(phase: usize, i: usize, b: u8) -> usize
-    requires fact_1 { phase ≤ i }
-    requires fact_2 { i < 4096 }
-    ensures { result ≡ past_phase phase i b }
+// The place of the first W, or the word's length.
+fn first_w(word: &[u8]) -> usize
+    ensures { PhaseIs word.now result }
 {
-    if phase < i {
-        return phase;
-    }
-    if b == b'W' { i } else { i + 1 }
+    word.iter().position(|b| *b == b'W').unwrap_or(word.len())
 }
 
 pub fn measure(word: &[u8]) -> Result<Measured, Refusal>
     requires { length word.now ≤ 4096 }
     ensures { MeasureIs word.now result }
 {
+    let phase = first_w(word);
     let mut lines: usize = 0;
-    let mut phase: usize = 0;
     for (i, b) in word.iter().enumerate() {
         lines += line_size(*b).ok_or(Refusal::Letter(i))?;
-        phase = past(phase, i, *b);
     }
     Ok(Measured { lines, phase })
 }

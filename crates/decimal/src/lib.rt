@@ -1,4 +1,5 @@
-// Decimal numbers in a slice, each ended by a byte that is no digit.
+// Decimal numbers in a slice, each ended by a byte that is no digit. A place and no slice from there on: the laws of specs/ReadLaws (`Found`, `Reading`)
+// speak of places in the whole.
 #![tactic(auto)]
 
 ghost use Rattle.std.specs.Prelude.{◌≡◌, ◌<◌, ◌∷◌, length, get_or, drop};
@@ -38,7 +39,8 @@ fn push(front: u64, b: u8, most: u64) -> Option<u64>
     Some(tens + d)
 }
 
-// The number from 0 to `most` at a place, with `end` behind it, and the place behind that.
+// The number from 0 to `most` at a place, with `end` behind it, and the place behind that. A byte and no type of its own is plainer: `,` and LF are seen
+// to be below 48 at each call.
 pub fn natural_at(s: &[u8], at: usize, end: u8, most: u64) -> Option<(u64, usize)>
     requires { end < 48 }
     ensures { NaturalIs s.now (drop at s.now) end most result }

@@ -1,14 +1,8 @@
-// Text written into a slice from a place on; each writer returns the place behind what it wrote.
-ghost use Rattle.std.specs.Prelude.{◌≡◌, [], ◌∷◌, ◌++◌, ◌+◌, ◌≤◌, ◌<◌, length};
+// Text written into a slice from a place on; each writer returns the place behind what it wrote. A place and no slice: `Written` (crate lent) tells
+// what stands before it too.
+ghost use Rattle.std.specs.Prelude.{[], ◌∷◌, ◌++◌, ◌+◌, ◌≤◌, length};
 ghost use Rattle.exact.specs.Meaning.Record.{digits};
 ghost use Rattle.lent.specs.Written.{Written};
-
-fn digit_of(d: u64) -> u8
-    requires { d < 10 }
-    ensures { result ≡ 48 + d }
-{
-    b'0' + d as u8
-}
 
 // A number's digits: those of the tenth, and the last. By hand, as a formatter may fail for want of room, and here there is room.
 fn number(out: &mut [u8], at: usize, v: u64) -> usize
@@ -16,11 +10,11 @@ fn number(out: &mut [u8], at: usize, v: u64) -> usize
     ensures { Written out.old at (digits v) out.new result }
 {
     if v < 10 {
-        out[at] = digit_of(v);
+        out[at] = b'0' + v as u8;
         return at + 1;
     }
     let last = number(out, at, v / 10);
-    out[last] = digit_of(v % 10);
+    out[last] = b'0' + (v % 10) as u8;
     last + 1
 }
 

@@ -47,7 +47,7 @@ fn numbers_in(s: &[u8]) -> Option<Triple>
     Some(Triple { k, n, z, w })
 }
 
-// The lines of the three counts, from a place on.
+// The lines of the three counts, from a place on (`Written`).
 fn counts(out: &mut [u8], at: usize, t: u64, bytes: u64, steps: u64) -> usize
     requires { at + length (count_lines t bytes steps) ≤ length out.old }
     ensures { Written out.old at (count_lines t bytes steps) out.new result }

@@ -1,4 +1,5 @@
-// The record's lines: a name and `=`, then a number or four, then LF. What is found comes with the place behind it.
+// The record's lines: a name and `=`, then a number or four, then LF. What is found comes with the place behind it, as in
+// crate decimal.
 ghost use Rattle.std.specs.Prelude.{drop};
 ghost use Rattle.record.specs.Read.{NameIs, FourIs, RingIs, KIs, NIs};
 

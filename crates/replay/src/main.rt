@@ -1,6 +1,7 @@
 // Replays the oracle's sample: runs the job of each request on standard input and writes its answer, a line each. README.md beside src/ has the format.
 #![tactic(auto)]
 
+mod digits;
 mod jobs;
 mod requests;
 mod slots;

@@ -1,26 +1,18 @@
 // Requests: the head, which has the job, the room and the payload's size, and the payload with an LF behind it.
-ghost use Rattle.std.specs.Prelude.{◌<◌, ◌≡◌, ◌^◌, length};
+ghost use Rattle.std.specs.Prelude.{◌<◌};
 
+use crate::digits::digit;
 use crate::jobs;
 use std::io;
 use std::io::{Read, Write};
 
-// 0 for a byte that is no digit.
-fn digit(b: u8) -> usize
-    ensures { result < 10 }
-{
-    match b {
-        b'0'..=b'9' => (b - b'0') as usize,
-        _ => 0,
-    }
-}
-
+// A byte that is no digit counts as 0.
 fn number(digits: &[u8; 5]) -> usize
     ensures { result < 100000 }
 {
     let mut n = 0;
     for b in digits {
-        n = n * 10 + digit(*b);
+        n = n * 10 + usize::from(digit(*b).unwrap_or(0));
     }
     n
 }

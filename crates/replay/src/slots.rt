@@ -1,29 +1,16 @@
 // Slots: the codes and the numbers of a request, and the answer in text.
+use crate::digits::{digit, shown};
 use exact::Refusal;
 use ring::Triple;
 use shown::{numbers, text};
 use std::io;
 use std::io::Write;
 
-fn code(digit: u8) -> u8 {
-    match digit {
-        b'0'..=b'9' => digit - b'0',
-        _ => 255,
-    }
-}
-
-fn digit(code: u8) -> u8 {
-    match code {
-        0..=9 => code + b'0',
-        _ => b'?',
-    }
-}
-
-// 0 behind the last digit.
+// 255 for a byte that is no digit, 0 behind the last.
 fn codes(digits: &[u8]) -> [u8; 4096] {
     let mut syllables = [0; 4096];
     for (syllable, b) in syllables.iter_mut().zip(digits) {
-        *syllable = code(*b);
+        *syllable = digit(*b).unwrap_or(255);
     }
     syllables
 }
@@ -39,11 +26,11 @@ fn rest_of(t: Triple) -> [u64; 6] {
 
 // As far as the last that is not 0.
 fn to_last(digits: &[u8]) -> &[u8] {
-    let mut shown = digits;
-    while let [front @ .., b'0'] = shown {
-        shown = front;
+    let mut rest = digits;
+    while let [front @ .., b'0'] = rest {
+        rest = front;
     }
-    shown
+    rest
 }
 
 fn written<W: Write>(
@@ -58,7 +45,7 @@ fn written<W: Write>(
     }
     numbers(out, rest)?;
     text(out, b" ")?;
-    text(out, to_last(&syllables.map(digit)))
+    text(out, to_last(&syllables.map(shown)))
 }
 
 pub fn add<W: Write>(out: &mut W, t: Triple, digits: &[u8]) -> io::Result<()> {

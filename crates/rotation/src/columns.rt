@@ -70,6 +70,7 @@ fn x_becomes(s: Parts, t: Parts, m: Parts) -> Vect
     }
 }
 
+// Other signs than above: one function of both would take them as arguments.
 fn y_becomes(s: Parts, t: Parts, m: Parts) -> Vect
     requires { YFits s t m }
     ensures { vect result ≡ y_of s t m }

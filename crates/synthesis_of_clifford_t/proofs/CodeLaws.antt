@@ -1,18 +1,19 @@
 -- The step in code: what each function on the way hands on, and that the answer is the case of the definition `reduction`. Assumes nothing.
-use Rattle.std.specs.Prelude.{◌≡◌, Bool, true, false, T}
+use Rattle.std.specs.Prelude.{◌≡◌, refl, Bool, true, false, T}
 use Rattle.std.proofs.Common.{sym, ◌∙◌, ap₂, subst, arith}
 use Rattle.std.proofs.Math.Path.{ap}
 use Prim.Native.Nat.{ℕ, zero, suc, ◌+◌, ◌-◌, ◌/◌, ◌%◌, ◌^◌, ◌≤◌, ◌<◌}
 use Rattle.exact.specs.Meaning.Number.{Ω, ints, add_q, neg_q, mul_q, omega', omega^, odd, bit, residue, Sized}
 use Rattle.exact.specs.Meaning.Word.{H}
-use Rattle.exact.specs.Meaning.Triple.{Triple}
+use Rattle.exact.specs.Meaning.Triple.{Triple, Unitary}
 use Rattle.exact.specs.Meaning.Limits.{deepest}
 use Rattle.exact.proofs.Algebra.Omega.{omegas_laws}
 use Rattle.exact.specs.Algebra.Twos.{Multiple}
 use Rattle.exact.specs.Matrices.Triples.{act}
 use Rattle.exact.specs.Matrices.Divided.{Divided}
 use Rattle.exact.proofs.Matrices.Divided.{divided_once}
-use Rattle.exact.specs.Matrices.Least.{mod_eight}
+use Rattle.exact.specs.Matrices.Least.{mod_eight, reduced_test}
+use Rattle.exact.proofs.Matrices.Least.{test_reduced, reduced_test_lem}
 use Rattle.exact.proofs.Matrices.Sizes.{z_sized, w_sized, sized_le, add_sized, neg_sized, omega_sized}
 use Rattle.ring.specs.Meaning.{quad}
 use Rattle.ring.specs.Number.{Small}
@@ -23,11 +24,18 @@ use Rattle.unitary.specs.Checks.{both_test}
 use Rattle.steps.specs.Meaning.{power_by, power}
 use Rattle.steps.specs.Residues.{back, falls_by}
 use Rattle.steps.proofs.Residues.{power_by_few}
-use Rattle.steps.specs.Step.{Ready, Stepped, reduction, falls, next}
+use Rattle.steps.specs.Step.{Ready, Ended, Stepped, reduction, falls, next}
+use Rattle.steps.proofs.Step.{next_ready, next_n}
+use Rattle.steps.proofs.Steps.{left_few, left_next}
 use Rattle.steps.specs.Step.{explicit}
 use Rattle.steps.proofs.Step.{fallen, stayed, falls_even, stays_once}
 use Rattle.steps.proofs.Step.{fallen_divided, stayed_divided, next_falls, next_stays}
 use Rattle.steps.proofs.Synthesised.{reduction_stepped}
+use Rattle.synthesis_of_clifford_t.specs.declared.reduced.Reduced.{Reduced}
+
+-- no step, where k is 0
+pub reduction_ended : (t : Triple) → t.k ≡ 0 → reduction t ≡ Ended
+reduction_ended t e = ap (λ k. elim k [ zero ↦ Ended | suc k ↦ Stepped (power t) (next t) ]) e
 
 pub residue_few : {r : ℕ} (x : Ω) → r ≡ residue x → r < 16
 residue_few x e = omega (arith, few (odd x.a), few (odd x.b), few (odd x.c), few (odd x.d))
@@ -41,6 +49,47 @@ power_fits m p q e = omega (arith, power_by_few p q)
 
 pub good_ready : {t : DOmegaUnitary} → Good t → Ready (triple t)
 good_ready g = record { unitary = g.unitary; reduced = g.reduced }
+
+pub good_of : (r : Reduced) → Good r.matrix
+good_of r = record { unitary = r.unitary; reduced = test_reduced (triple r.matrix) r.reduced; n_small = r.n_small }
+
+-- ---- what a step hands on: v behind t
+module _ {t v : DOmegaUnitary} {m : ℕ} (g : Good t) (h : t.k ≤ deepest) (is : Stepped m (triple v) ≡ reduction (triple t)) where
+  step_some : 0 < t.k
+  step_some = go t.k refl
+    where
+      go : (k : ℕ) → t.k ≡ k → 0 < k
+      go zero e = cc (is, reduction_ended (triple t) e)
+      go (suc k) e = omega arith
+
+  k_one_more : t.k ≡ suc (t.k - 1)
+  k_one_more = omega (arith, step_some)
+
+  is_next : triple v ≡ next (triple t)
+  is_next = cc (is ∙ reduction_stepped (triple t) (t.k - 1) k_one_more)
+
+  step_ready : Ready (triple v)
+  step_ready = rw is_next (next_ready g.unitary)
+
+  pub next_unitary : Unitary (triple v)
+  next_unitary = step_ready.unitary
+
+  pub next_reduced : T (reduced_test (triple v))
+  next_reduced = reduced_test_lem (triple v) step_ready.reduced
+
+  pub next_n_small : v.n < 8
+  next_n_small = omega (arith, next_n (triple t), ap (λ (u : Triple). u.n) is_next)
+
+  pub next_few : v.k ≤ deepest
+  next_few =
+      omega (
+        arith,
+        (left_few (next (triple t))).0,
+        left_next (triple t) (t.k - 1) (good_ready g) k_one_more,
+        (left_few (triple t)).1,
+        h,
+        ap (λ (u : Triple). u.k) is_next,
+      )
 
 -- ---- sizes
 power_sized : (n j : ℕ) (x : Ω) → Sized n x → Sized n (mul_q ints (omega^ j) x)

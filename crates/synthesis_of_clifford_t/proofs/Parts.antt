@@ -26,7 +26,7 @@ use Rattle.steps.proofs.Counts.{block_length}
 use Rattle.steps.proofs.Synthesised.{reduction_stepped}
 use Rattle.synthesis_of_clifford_t.proofs.Loop.{Progress, progress_start, progress_step, progress_room}
 use Rattle.synthesis_of_clifford_t.proofs.Loop.{progress_letters, progress_steps, progress_length}
-use Rattle.synthesis_of_clifford_t.proofs.CodeLaws.{good_ready}
+use Rattle.synthesis_of_clifford_t.proofs.CodeLaws.{good_ready, reduction_ended}
 
 -- ---- a block, T^m·H with S for TT
 block_bytes : (m : ℕ) → m < 4 → (replicate {A = ℕ} (m % 2) 84 ++ replicate (m / 2) 83) ++ (72 ∷ []) ≡ bytes (block m)
@@ -110,9 +110,6 @@ module _ (buf : List ℕ) (a : ℕ) (h : a ≤ length buf) where
       none = Post-is a (length buf) buf h ∙ drop-length buf
 
 -- ---- no step, where k is 0
-reduction_ended : (t : Triple) → t.k ≡ 0 → reduction t ≡ Ended
-reduction_ended t e = ap (λ k. elim k [ zero ↦ Ended | suc k ↦ Stepped (power t) (next t) ]) e
-
 pub ended : (t : Triple) → Ended ≡ reduction t → t.k ≤ 0
 ended t e = go t.k refl
   where
@@ -138,12 +135,6 @@ writing_start old t g k l = record {
 }
 
 module _ {old : List ℕ} {t : DOmegaUnitary} {buf : List ℕ} {u : DOmegaUnitary} {len count : ℕ} (w : Writing old t buf u len count) where
-  pub still_good : Good u
-  still_good = let p = w.progress in record { unitary = p.ready.unitary; reduced = p.ready.reduced; n_small = p.n_small }
-
-  pub still_few : u.k ≤ deepest
-  still_few = omega (arith, w.progress.k_less, w.few)
-
   pub count_fits : Fits w64 (count + 1)
   count_fits = record { fits = omega (arith, w.progress.few, w.few) }
 

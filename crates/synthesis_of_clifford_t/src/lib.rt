@@ -3,12 +3,10 @@
 
 ghost use Rattle.std.specs.Prelude.{◌≡◌, ◌+◌, ◌≤◌, ◌<◌, length};
 ghost use Rattle.exact.specs.Meaning.Word.{bytes};
-ghost use Rattle.exact.specs.Meaning.Limits.{deepest};
 ghost use Rattle.exact.specs.Algebra.OmegaPower.{which};
 ghost use Rattle.ring.specs.Meaning.{quad};
 ghost use Rattle.ring.specs.Number.{Small};
 ghost use Rattle.unitary.specs.Meaning.{triple};
-ghost use Rattle.unitary.specs.Acts.{Good};
 ghost use Rattle.writing.specs.Put.{Put};
 ghost use Rattle.steps.specs.Meaning.{bit_shift, power_by};
 ghost use Rattle.steps.specs.Residues.{bit_count, falls_by};
@@ -20,7 +18,10 @@ ghost use Rattle.synthesis_of_clifford_t.specs.Code.{answer_of};
 ghost use Rattle.synthesis_of_clifford_t.specs.Closes.{sign_of, closing_by, Closes};
 ghost use Rattle.synthesis_of_clifford_t.specs.Answer.{AnsweredBy};
 
+mod reduced;
+
 use exact::Refusal;
+use reduced::Reduced;
 use ring::{Triple, ZOmega};
 use unitary::DOmegaUnitary;
 use writing::Ending;
@@ -73,11 +74,10 @@ fn falls(z: usize, w: usize) -> bool
 
 // The step at a reduced unitary triple, m and the next matrix: H·T^-m from the left, then as many divisions by root two as there are. None at k = 0.
 // The method of this name (crate unitary) does something else: it finds the least exponent. So it is in the Rust: src/unitary.rs, src/ring/d_omega.rs.
-fn reduce_denomexp(t: DOmegaUnitary) -> Option<(u8, DOmegaUnitary)>
-    requires fact_1 { Good t }
-    requires fact_2 { t.k ≤ deepest }
-    ensures { answer_of result ≡ reduction (triple t) }
+fn reduce_denomexp(from: Reduced) -> Option<(u8, Reduced)>
+    ensures { answer_of result ≡ reduction (triple from.matrix) }
 {
+    let t = from.matrix;
     if t.k == 0 {
         return None;
     }
@@ -87,9 +87,11 @@ fn reduce_denomexp(t: DOmegaUnitary) -> Option<(u8, DOmegaUnitary)>
     let turned = t.mul_by_t_inv_power_from_left(m);
     let raised = turned.mul_by_h_from_left();
     if falls(p, q) {
-        return Some((m, raised.halved(1)));
+        let matrix = raised.halved(1);
+        return Some((m, Reduced { matrix }));
     }
-    Some((m, raised.lowered()))
+    let matrix = raised.lowered();
+    Some((m, Reduced { matrix }))
 }
 
 // The letters of a step, T^m·H with S for TT, from the start of the free rest.
@@ -159,11 +161,11 @@ fn closing_by(n: u8, x: u8, m: u8) -> Closing
 }
 
 // At k = 0 the eight squares sum to 1, so z is 0 where its residue is.
-fn closing_of(t: DOmegaUnitary) -> Closing
-    requires fact_1 { Good t }
-    requires fact_2 { t.k ≡ 0 }
-    ensures { Closes (triple t) result }
+fn closing_of(last: Reduced) -> Closing
+    requires { last.matrix.k ≡ 0 }
+    ensures { Closes (triple last.matrix) result }
 {
+    let t = last.matrix;
     if t.z.residue() == 0 {
         let u = t.w.mul_by_omega_inv_power(t.n % 2);
         return closing_by(t.n, 1, power_of_omega(u));
@@ -172,13 +174,12 @@ fn closing_of(t: DOmegaUnitary) -> Closing
 }
 
 // The closing letters, from the start of the free rest.
-fn write_closing(rest: &mut [u8], t: DOmegaUnitary) -> usize
-    requires fact_1 { Good t }
-    requires fact_2 { t.k ≡ 0 }
-    requires fact_3 { length (closing (triple t)) ≤ length rest.old }
-    ensures { Put rest.old 0 (bytes (closing (triple t))) rest.new result }
+fn write_closing(rest: &mut [u8], last: Reduced) -> usize
+    requires at_zero { last.matrix.k ≡ 0 }
+    requires room { length (closing (triple last.matrix)) ≤ length rest.old }
+    ensures { Put rest.old 0 (bytes (closing (triple last.matrix))) rest.new result }
 {
-    let c = closing_of(t);
+    let c = closing_of(last);
     let a = writing::put_times(rest, 0, b'T', c.tees);
     writing::put_ending(rest, a, c.tail)
 }
@@ -193,11 +194,9 @@ struct Decomposed {
 }
 
 // The letters that a reduced triple is taken apart into, from the start of a working buffer.
-fn decompose_domega_unitary(t: DOmegaUnitary, work: &mut [u8]) -> Decomposed
-    requires fact_1 { Good t }
-    requires fact_2 { t.k ≤ deepest }
-    requires fact_3 { 372 ≤ length work.old }
-    ensures { Put work.old 0 (bytes (letters (triple t))) work.new result.len × (result.steps ≡ steps (triple t)) }
+fn decompose_domega_unitary(t: Reduced, work: &mut [u8]) -> Decomposed
+    requires { 372 ≤ length work.old }
+    ensures { Put work.old 0 (bytes (letters (triple t.matrix))) work.new result.len × (result.steps ≡ steps (triple t.matrix)) }
 {
     let mut u = t;
     let mut len: usize = 0;
@@ -215,10 +214,8 @@ fn decompose_domega_unitary(t: DOmegaUnitary, work: &mut [u8]) -> Decomposed
 }
 
 // The normal word of a reduced triple, and the steps to it.
-fn answer(t: DOmegaUnitary, buf: &mut [u8]) -> Result<Spelt, Refusal>
-    requires fact_1 { Good t }
-    requires fact_2 { t.k ≤ deepest }
-    ensures { AnsweredBy (triple t) buf.old (synthesised result) buf.new }
+fn answer(t: Reduced, buf: &mut [u8]) -> Result<Spelt, Refusal>
+    ensures { AnsweredBy (triple t.matrix) buf.old (synthesised result) buf.new }
 {
     let mut work = [0u8; 384];
     let d = decompose_domega_unitary(t, &mut work);
@@ -241,6 +238,6 @@ pub fn synthesise(t: Triple, buf: &mut [u8]) -> Result<Spelt, Refusal>
         n: t.n,
         k: t.k as u8,
     };
-    let reduced = given.reduce_denomexp();
-    answer(reduced, buf)
+    let matrix = given.reduce_denomexp();
+    answer(Reduced { matrix }, buf)
 }

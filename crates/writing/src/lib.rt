@@ -31,8 +31,7 @@ fn esses(axis: Axis) -> usize
     ensures { result ≡ esses_of axis }
 {
     match axis {
-        Axis::I => 0,
-        Axis::H => 0,
+        Axis::I | Axis::H => 0,
         Axis::SH => 1,
     }
 }
@@ -42,12 +41,11 @@ fn aitches(axis: Axis) -> usize
 {
     match axis {
         Axis::I => 0,
-        Axis::H => 1,
-        Axis::SH => 1,
+        Axis::H | Axis::SH => 1,
     }
 }
 
-// A tail with no letter to write is one I.
+// A tail with no letter to write is one I. A function of its own, as `kept` is: it promises the choice that the definition spells.
 fn one_if_none(n: usize) -> usize
     ensures { result ≡ cond (eqb n 0) 1 0 }
 {
@@ -82,11 +80,11 @@ pub fn ending_of(table: Table, t: Tail, phase: bool) -> Ending
     }
 }
 
-// Whether a run that ends at a place lies before this one.
+// Whether a run that ends at a place lies before this one: a number, so that a letter is found without a branch.
 fn past(j: usize, end: usize) -> usize
     ensures { (result ≡ past_of j end) × (result ≤ 1) }
 {
-    if j < end { 0 } else { 1 }
+    usize::from(j >= end)
 }
 
 // The letter of each run: S, H, I, X, S and W.

@@ -20,4 +20,4 @@ overflow_add-lines c =
 pub loop-i-preserved : goal.loop-i-preserved
 loop-i-preserved c =
     let e : c.line_size.result ≡ Some c.in_ok-lines.field-0 = grind arith in
-    measuring_more c.loop-i.invariant c.line_size.ensures _ e (omega arith) c.past-phase.ensures
+    measuring_more c.loop-i.invariant c.line_size.ensures _ e (omega arith)

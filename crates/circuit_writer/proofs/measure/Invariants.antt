@@ -3,4 +3,4 @@ use Rattle.circuit_writer.specs.WritingLaws.{Measuring}
 use Rattle.circuit_writer.proofs.measure.Given as goal
 
 abbrev pub invariant-loop-i : goal.invariant-loop-i
-invariant-loop-i l = Measuring l.word l.lines l.phase l.i
+invariant-loop-i l = Measuring l.word l.lines l.i

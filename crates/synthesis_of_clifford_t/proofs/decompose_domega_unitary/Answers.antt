@@ -1,16 +1,14 @@
 -- `synthesis_of_clifford_t::decompose_domega_unitary` meets its contract: each turn takes a step and writes its block into the free
 -- rest; the measure is how many steps there may be.
-use Rattle.synthesis_of_clifford_t.proofs.Parts.{writing_start, still_good, still_few, len_inside, length_kept, block_fits}
+use Rattle.synthesis_of_clifford_t.proofs.Parts.{writing_start, len_inside, length_kept, block_fits}
 use Rattle.synthesis_of_clifford_t.proofs.Parts.{count_fits, step_few, step_nearer, step_room, step_writing, ended}
 use Rattle.synthesis_of_clifford_t.proofs.Parts.{end_room, end_fits, end_put, end_steps}
+use Rattle.synthesis_of_clifford_t.proofs.CodeLaws.{good_of}
 use borrow.Author.Rules.{rules}
 use Rattle.synthesis_of_clifford_t.proofs.decompose_domega_unitary.Goals as goal
 
 pub loop-m-init : goal.loop-m-init
-loop-m-init c = search writing_start
-
-pub reduce_denomexp-requires : goal.reduce_denomexp-requires
-reduce_denomexp-requires c = search (still_good, still_few)
+loop-m-init c = search (good_of, writing_start)
 
 pub slice_bounds-write_block-count : goal.slice_bounds-write_block-count
 slice_bounds-write_block-count c = search (rules, len_inside)
@@ -34,7 +32,7 @@ pub slice_bounds-write_closing-count : goal.slice_bounds-write_closing-count
 slice_bounds-write_closing-count c = search len_inside
 
 pub write_closing-len-requires : goal.write_closing-len-requires
-write_closing-len-requires c = search (rules, still_good, end_room, ended, c.in_default.ensures)
+write_closing-len-requires c = search (rules, end_room, ended, c.in_default.ensures)
 
 pub overflow_add-len-2 : goal.overflow_add-len-2
 overflow_add-len-2 c = search (end_fits, ended, c.in_default.ensures)

@@ -2,5 +2,5 @@
 use Rattle.std.proofs.Common.{length}
 use Rattle.replay.proofs.slots.to_last.Given as goal
 
-abbrev pub decreases-loop-shown : goal.decreases-loop-shown
-decreases-loop-shown l = length l.shown
+abbrev pub decreases-loop-rest : goal.decreases-loop-rest
+decreases-loop-rest l = length l.rest
