@@ -88,7 +88,7 @@ fn main() {
     table.extend((0..24u8).map(|code| entry(q.behind(AXES[code as usize / 8], q.matrix(code)).expect("an axis"))));
     table.extend(CHANGES.iter().flat_map(|p| (0..24).map(|code| q.pair(p, code).0)));
     table.extend(pairs.iter().flat_map(|p| [row(&q, p), 24 * change(&q, p)]));
-    println!("pub const TABLE: [u8; {}] = [", table.len() + NUMBERED.count());
+    println!("pub static TABLE: [u8; {}] = [", table.len() + NUMBERED.count());
     table.iter().for_each(|x| println!("    {x},"));
     NUMBERED.for_each(|b| match LETTERS.iter().position(|l| *l == b) {
         Some(number) => println!("    {number}, // {}", b as char),

@@ -9,14 +9,10 @@ use std::io::Write;
 
 fn handed<W: Write>(out: &mut W, r: Result<Counts, Refusal>) -> io::Result<()> {
     match r {
-        Ok(counts) => write!(
-            out,
-            ", refusal=0 place=0 bytes={} t={}",
-            counts.bytes, counts.tees
-        ),
+        Ok(c) => write!(out, " refusal=0 place=0 bytes={} t={}", c.bytes, c.tees),
         Err(e) => write!(
             out,
-            ", refusal={} place={} bytes=0 t=0",
+            " refusal={} place={} bytes=0 t=0",
             e.number(),
             e.place()
         ),
@@ -31,9 +27,10 @@ fn shown_as<W: Write>(
     second: &mut [u8],
 ) -> io::Result<()> {
     let r = agreement::agree(word, first, second);
-    let answer = if r.yes { "yes" } else { "no" };
-    write!(out, "{label}: {answer}")?;
+    let yes = if r.yes { "yes" } else { "no" };
+    write!(out, "{label}: {yes},")?;
     handed(out, r.first)?;
+    write!(out, ",")?;
     handed(out, r.second)
 }
 
@@ -57,8 +54,9 @@ fn agree<W: Write>(out: &mut W, word: &str) -> io::Result<()> {
 }
 
 fn rooms<W: Write>(out: &mut W) -> io::Result<()> {
-    in_rooms(out, "T", &mut [b'.'; 1], &mut [b'.'; 2])?;
-    in_rooms(out, "T", &mut [b'.'; 2], &mut [b'.'; 1])
+    let mut one = [b'.'; 1];
+    in_rooms(out, "T", &mut one, &mut [b'.'; 2])?;
+    in_rooms(out, "T", &mut [b'.'; 2], &mut one)
 }
 
 fn long<W: Write>(out: &mut W, label: &str, word: &[u8]) -> io::Result<()> {
@@ -69,36 +67,36 @@ fn long<W: Write>(out: &mut W, label: &str, word: &[u8]) -> io::Result<()> {
 }
 
 fn identities<W: Write>(out: &mut W) -> io::Result<()> {
-    agree(out, "I")?;
-    agree(out, "II")?;
-    agree(out, "TI")?;
-    agree(out, "ITI")?;
-    agree(out, "HIH")?;
-    agree(out, "SHTIT")?;
-    agree(out, "XTHSHT")?;
-    agree(out, "IXTHSHT")?;
-    agree(out, "XITHSHT")?;
-    agree(out, "XTIHSHT")?;
-    agree(out, "XTHISHT")?;
-    agree(out, "XTHSIHT")?;
-    agree(out, "XTHSHIT")?;
-    agree(out, "XTHSHTI")?;
-    agree(out, "IXITIHISIHITI")?;
-    agree(out, "i")?;
-    agree(out, "TI?")?;
+    for word in [
+        "I",
+        "II",
+        "TI",
+        "ITI",
+        "HIH",
+        "SHTIT",
+        "XTHSHT",
+        "IXTHSHT",
+        "XITHSHT",
+        "XTIHSHT",
+        "XTHISHT",
+        "XTHSIHT",
+        "XTHSHIT",
+        "XTHSHTI",
+        "IXITIHISIHITI",
+        "i",
+        "TI?",
+    ] {
+        agree(out, word)?;
+    }
     long(out, "I 4096 times", &[b'I'; 4096])?;
     long(out, "I 4097 times", &[b'I'; 4097])
 }
 
 fn main(rt: HostRuntime) -> io::Result<()> {
     let mut out = rt.stdout();
-    agree(&mut out, "")?;
-    agree(&mut out, "T")?;
-    agree(&mut out, "SHTT")?;
-    agree(&mut out, "HSH")?;
-    agree(&mut out, "XT")?;
-    agree(&mut out, "HTHT")?;
-    agree(&mut out, "HT?")?;
+    for word in ["", "T", "SHTT", "HSH", "XT", "HTHT", "HT?"] {
+        agree(&mut out, word)?;
+    }
     identities(&mut out)?;
     rooms(&mut out)?;
     long(&mut out, "W 4096 times", &[b'W'; 4096])?;

@@ -53,21 +53,17 @@ fn answers<W: Write>(to: &mut W) -> io::Result<()> {
     answer(to, 0, &word, u64::MAX, u64::MAX)
 }
 
-// An answer's text, its size, and whether the bytes behind are as before.
+// An answer's text, its size, and whether the bytes behind are as before. A number and no enum: any may be written.
 fn answer<W: Write>(to: &mut W, refusal: u8, word: &[u8], t: u64, steps: u64) -> io::Result<()>
     requires { length word.now ≤ enough }
 {
     let mut out = [b'.'; 512];
     let size = record::write(refusal, word, t, steps, &mut out);
-    print(to, &out, size)
-}
-
-fn print<W: Write>(to: &mut W, out: &[u8], size: usize) -> io::Result<()> {
-    if size < out.len() {
-        text(to, &out[..size])?;
+    if let Some((written, [next, ..])) = out.split_at_checked(size) {
+        text(to, written)?;
         write!(to, "{size}")?;
-        if out[size] == b'.' {
-            text(to, b" bytes, and the next as it was")?;
+        if *next == b'.' {
+            write!(to, " bytes, and the next as it was")?;
         }
         writeln!(to)?;
     }

@@ -9,10 +9,6 @@ use rotation::Rotation;
 use std::io;
 use std::io::Write;
 
-fn quad(a: i64, b: i64, c: i64, d: i64) -> ZOmega {
-    ZOmega { a, b, c, d }
-}
-
 fn row<W: Write>(out: &mut W, a: Root, b: Root, c: Root) -> io::Result<()> {
     writeln!(out, "{},{} {},{} {},{}", a.p, a.q, b.p, b.q, c.p, c.q)
 }
@@ -32,7 +28,7 @@ fn refusal<T: Copy>(outcome: Result<T, Refusal>) -> u8 {
     }
 }
 
-// The triple's four parts one by one, so that a case is a line. A refusal's numbers are zeros.
+// A triple's four parts one by one: most cases then fit a line. A refusal's numbers are zeros.
 fn case<W: Write>(out: &mut W, label: &str, k: i64, n: u8, z: ZOmega, w: ZOmega) -> io::Result<()> {
     let t = Triple { k, n, z, w };
     let count = rotation::t_count(t);
@@ -45,57 +41,64 @@ fn case<W: Write>(out: &mut W, label: &str, k: i64, n: u8, z: ZOmega, w: ZOmega)
 }
 
 fn letters<W: Write>(out: &mut W) -> io::Result<()> {
-    let zero = quad(0, 0, 0, 0);
-    let one = quad(0, 0, 0, 1);
+    let zero = ZOmega::ZERO;
+    let one = ZOmega::ONE;
     case(out, "identity", 0, 0, one, zero)?;
     case(out, "T", 0, 1, one, zero)?;
     case(out, "S", 0, 2, one, zero)?;
     case(out, "H", 1, 4, one, one)?;
     case(out, "X", 0, 4, zero, one)?;
-    case(out, "W", 0, 2, quad(0, 0, 1, 0), zero)
+    case(out, "W", 0, 2, ZOmega::new(0, 0, 1, 0), zero)
 }
 
 fn words<W: Write>(out: &mut W) -> io::Result<()> {
-    let zero = quad(0, 0, 0, 0);
-    let one = quad(0, 0, 0, 1);
-    let omega = quad(0, 0, 1, 0);
+    let zero = ZOmega::ZERO;
+    let one = ZOmega::ONE;
+    let omega = ZOmega::new(0, 0, 1, 0);
     case(out, "HT", 1, 5, one, one)?;
     case(out, "WHT", 1, 7, omega, omega)?;
-    case(out, "SHT", 1, 7, one, quad(0, 1, 0, 0))?;
+    case(out, "SHT", 1, 7, one, ZOmega::new(0, 1, 0, 0))?;
     case(out, "THT", 1, 6, one, omega)?;
-    case(out, "HTHT", 2, 2, quad(0, 0, 1, 1), quad(0, 0, -1, 1))?;
+    case(
+        out,
+        "HTHT",
+        2,
+        2,
+        ZOmega::new(0, 0, 1, 1),
+        ZOmega::new(0, 0, -1, 1),
+    )?;
     case(
         out,
         "five steps, four T",
         3,
         0,
-        quad(0, 0, 2, 1),
-        quad(1, -1, 1, 0),
+        ZOmega::new(0, 0, 2, 1),
+        ZOmega::new(1, -1, 1, 0),
     )?;
     case(
         out,
         "four steps, five T",
         3,
         5,
-        quad(-1, 2, 0, 1),
-        quad(0, 0, 1, 1),
+        ZOmega::new(-1, 2, 0, 1),
+        ZOmega::new(0, 0, 1, 1),
     )?;
     case(out, "n=255", 0, 255, one, zero)?;
     case(out, "n=255, k=1", 1, 255, one, one)
 }
 
 fn unreduced<W: Write>(out: &mut W) -> io::Result<()> {
-    let zero = quad(0, 0, 0, 0);
-    let root = quad(-536870912, 0, 536870912, 0);
-    let z = quad(0, 0, 536870912, 536870912);
-    let w = quad(0, 0, -536870912, 536870912);
+    let zero = ZOmega::ZERO;
+    let root = ZOmega::new(-536870912, 0, 536870912, 0);
+    let z = ZOmega::new(0, 0, 536870912, 536870912);
+    let w = ZOmega::new(0, 0, -536870912, 536870912);
     case(
         out,
         "HTHT at k=5",
         5,
         2,
-        quad(-2, 2, 2, 2),
-        quad(-2, -2, 2, -2),
+        ZOmega::new(-2, 2, 2, 2),
+        ZOmega::new(-2, -2, 2, -2),
     )?;
     case(out, "HTHT at k=60", 60, 2, z, w)?;
     case(
@@ -103,8 +106,8 @@ fn unreduced<W: Write>(out: &mut W) -> io::Result<()> {
         "THT at k=2, n=254",
         2,
         254,
-        quad(-1, 0, 1, 0),
-        quad(0, 1, 0, 1),
+        ZOmega::new(-1, 0, 1, 0),
+        ZOmega::new(0, 1, 0, 1),
     )?;
     case(out, "H at k=60", 60, 4, root, root)?;
     case(
@@ -112,7 +115,7 @@ fn unreduced<W: Write>(out: &mut W) -> io::Result<()> {
         "z=2^30 omega^3",
         60,
         0,
-        quad(1073741824, 0, 0, 0),
+        ZOmega::new(1073741824, 0, 0, 0),
         zero,
     )?;
     case(
@@ -121,7 +124,7 @@ fn unreduced<W: Write>(out: &mut W) -> io::Result<()> {
         60,
         9,
         zero,
-        quad(0, 0, -1073741824, 0),
+        ZOmega::new(0, 0, -1073741824, 0),
     )
 }
 
@@ -131,31 +134,31 @@ fn reduced_at_60<W: Write>(out: &mut W) -> io::Result<()> {
         "dial60",
         60,
         0,
-        quad(1157917, 241244727, 257304114, 252947704),
-        quad(391597696, 44672128, 715598589, -545075685),
+        ZOmega::new(1157917, 241244727, 257304114, 252947704),
+        ZOmega::new(391597696, 44672128, 715598589, -545075685),
     )?;
     case(
         out,
         "wide60",
         60,
         248,
-        quad(-390206113, -345627558, -109017700, -841266601),
-        quad(-225190364, -225220776, -137772297, -202907931),
+        ZOmega::new(-390206113, -345627558, -109017700, -841266601),
+        ZOmega::new(-225190364, -225220776, -137772297, -202907931),
     )?;
-    let z = quad(336131978, 357764841, 607162297, -58998357);
-    let w = quad(644527791, -249397456, 0, 249397456);
-    let turned = quad(-249397456, 0, 249397456, -644527791);
+    let z = ZOmega::new(336131978, 357764841, 607162297, -58998357);
+    let w = ZOmega::new(644527791, -249397456, 0, 249397456);
+    let turned = ZOmega::new(-249397456, 0, 249397456, -644527791);
     case(out, "HT 119 times", 60, 3, z, w)?;
     case(out, "T, HT 119 times", 60, 4, z, turned)
 }
 
 fn refusals<W: Write>(out: &mut W) -> io::Result<()> {
-    let zero = quad(0, 0, 0, 0);
-    let one = quad(0, 0, 0, 1);
-    let top = quad(0, 0, 0, 1073741824);
-    let over = quad(0, 0, 0, 1073741825);
-    let under = quad(-1073741825, 0, 0, 0);
-    let crossed = quad(0, 0, 1, 1);
+    let zero = ZOmega::ZERO;
+    let one = ZOmega::ONE;
+    let top = ZOmega::new(0, 0, 0, 1073741824);
+    let over = ZOmega::new(0, 0, 0, 1073741825);
+    let under = ZOmega::new(-1073741825, 0, 0, 0);
+    let crossed = ZOmega::new(0, 0, 1, 1);
     case(out, "k=-1", -1, 0, one, zero)?;
     case(out, "k=61", 61, 0, top, zero)?;
     case(out, "k=256", 256, 0, one, zero)?;

@@ -7,7 +7,7 @@ ghost use Rattle.circuit_reader.specs.Reading.{Along, MatchIs, LineIs, TailIs, G
 ghost use Rattle.circuit_reader.specs.Reading.{WalkIs};
 
 use circuit::Edition;
-use exact::{Refusal, both};
+use exact::Refusal;
 
 // A right text: where its statements start, and how many letters they are read as.
 #[derive(Clone, Copy)]
@@ -148,7 +148,7 @@ fn begins(text: &[u8], word: &[u8]) -> bool
 {
     let mut same = true;
     for (k, b) in word.iter().enumerate() {
-        same = both(same, text[k] == *b);
+        same &= text[k] == *b;
     }
     same
 }

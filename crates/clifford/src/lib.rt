@@ -24,6 +24,7 @@ impl From<Axis> for u8 {
     }
 }
 
+// That the numbers are in their ranges is no field of it: the definitions (`reduced`, `mul_c`, `split_c`) make one of any numbers.
 #[derive(Clone, Copy, PartialEq, Eq)]
 pub struct Clifford {
     pub a: u8,
@@ -327,6 +328,7 @@ const TCONJ_TABLE: [Tconj; 6] = [
     },
 ];
 
+// A row of each table, by a function of its own: each promises what its table was proved to say.
 fn conj2_row(i: u8) -> Conj2
     requires { i < 8 }
     ensures { Row2 i result }

@@ -1,7 +1,7 @@
 // The limits and the refusals by number (docs/SCOPE.md). The mathematics that every contract cites stands in specs/.
 #![tactic(auto)]
 
-ghost use Rattle.std.specs.Prelude.{◌≡◌, ◌&&◌, length};
+ghost use Rattle.std.specs.Prelude.{◌≡◌, length};
 ghost use Rattle.exact.specs.Meaning.Limits.{enough};
 ghost use Rattle.exact.specs.Meaning.Handed.{number, place};
 
@@ -16,29 +16,29 @@ pub const ENOUGH: usize = 376;
 
 pub const ACCEPTED: u8 = 0;
 
-pub const LONG: u8 = 1;
+const LONG: u8 = 1;
 
-pub const LETTER: u8 = 2;
+const LETTER: u8 = 2;
 
-pub const EXPONENT: u8 = 3;
+const EXPONENT: u8 = 3;
 
-pub const COEFFICIENT: u8 = 4;
+const COEFFICIENT: u8 = 4;
 
-pub const UNITARY: u8 = 5;
+const UNITARY: u8 = 5;
 
-pub const DEEP: u8 = 6;
+const DEEP: u8 = 6;
 
-pub const ROOM: u8 = 7;
+const ROOM: u8 = 7;
 
-pub const RECORD: u8 = 8;
+const RECORD: u8 = 8;
 
-pub const STATEMENT: u8 = 9;
+const STATEMENT: u8 = 9;
 
-pub const PHASE: u8 = 10;
+const PHASE: u8 = 10;
 
-pub const SLOT: u8 = 17;
+const SLOT: u8 = 17;
 
-pub const FULL: u8 = 18;
+const FULL: u8 = 18;
 
 // A refusal (docs/SCOPE.md, Refusals), with its place where it names one.
 #[derive(Clone, Copy, PartialEq, Eq)]
@@ -96,11 +96,4 @@ pub fn word_buffer() -> [u8; ENOUGH]
     ensures { enough ≡ length result }
 {
     [0; ENOUGH]
-}
-
-// Both, without a branch.
-pub fn both(a: bool, b: bool) -> bool
-    ensures { result ≡ a && b }
-{
-    if a { b } else { false }
 }

@@ -2,8 +2,7 @@
 #![tactic(auto)]
 
 ghost use Rattle.std.specs.Prelude.{◌≡◌};
-ghost use Rattle.handed.specs.Meaning.{z_of, w_of, triple_of, ten, eight_of, nineteen_of, counts, counts_of, steps_of, counts_in, four_of, five_of};
-ghost use Rattle.handed.specs.Numbers.{Wide};
+ghost use Rattle.handed.specs.Meaning.{triple_of, ten, eight_of, nineteen_of, counts, counts_of, steps_of, counts_in, four_of, five_of};
 ghost use Rattle.normal_form.specs.Meaning.{written};
 ghost use Rattle.synthesis_of_clifford_t.specs.Meaning.{synthesised};
 ghost use Rattle.qasm.specs.Meaning.{written as converted};
@@ -17,54 +16,32 @@ use synthesis_of_clifford_t::Spelt;
 use unitary::DOmegaUnitary;
 use view::matrix::View;
 
-pub fn z_of(zw: &[i64; 8]) -> ZOmega
-    ensures { result ≡ z_of zw.now }
-{
-    ZOmega {
-        a: zw[0],
-        b: zw[1],
-        c: zw[2],
-        d: zw[3],
-    }
-}
-
-pub fn w_of(zw: &[i64; 8]) -> ZOmega
-    ensures { result ≡ w_of zw.now }
-{
-    ZOmega {
-        a: zw[4],
-        b: zw[5],
-        c: zw[6],
-        d: zw[7],
-    }
-}
-
 pub fn triple_of(k: i64, n: u8, zw: &[i64; 8]) -> Triple
     ensures { result ≡ triple_of k n zw.now }
 {
     Triple {
         k,
         n,
-        z: z_of(zw),
-        w: w_of(zw),
+        z: ZOmega::new(zw[0], zw[1], zw[2], zw[3]),
+        w: ZOmega::new(zw[4], zw[5], zw[6], zw[7]),
     }
-}
-
-fn wide(x: u8) -> i64
-    ensures { Wide x result }
-{
-    x as i64
 }
 
 pub fn put_ten(t: DOmegaUnitary, out: &mut [i64; 10])
     ensures { out.new ≡ ten t }
 {
-    let z = t.z;
-    let w = t.w;
-    let k = wide(t.k);
-    let n = wide(t.n);
-    let numbers = [k, n, z.a, z.b, z.c, z.d, w.a, w.b, w.c, w.d];
-    *out = numbers;
+    *out = [
+        i64::from(t.k),
+        i64::from(t.n),
+        t.z.a,
+        t.z.b,
+        t.z.c,
+        t.z.d,
+        t.w.a,
+        t.w.b,
+        t.w.c,
+        t.w.d,
+    ];
 }
 
 pub fn put_counts(c: Counts, out: &mut [u64; 3])
@@ -112,7 +89,7 @@ pub fn put_rotation(r: Rotation, out: &mut [i64; 19])
 {
     let Rotation { x, y, z, e } = r;
     *out = [
-        wide(e),
+        i64::from(e),
         x.x.p,
         x.x.q,
         y.x.p,

@@ -17,7 +17,7 @@ use exact::Refusal;
 pub mod steps;
 pub mod table;
 
-// The codes of no syllable and of T; a syllable's code is the number of its letters.
+// The codes of no syllable and of T; a syllable's code is the number of its letters. Numbers and no enum: C lends them.
 pub const EMPTY: u8 = 0;
 
 const ONLY_T: u8 = 1;
@@ -30,7 +30,8 @@ pub enum Syllable {
     SHT,
 }
 
-// As many syllables as stand in the array, their letters, and the Clifford behind them.
+// As many syllables as stand in the array, their letters, and the Clifford behind them. The array stands beside it: slots lend one, and a
+// reading is a value that is kept in registers.
 #[derive(Clone, Copy)]
 pub struct Reading {
     pub count: usize,

@@ -7,14 +7,15 @@ use crate::table::Table;
 use clifford::{Axis, Clifford, Coset};
 
 // The Clifford (a,b,c,d) by its code 8a + 4b + c and its phase d. They are no bytes: two bytes the compiler copies as one number of 16 bits,
-// and it would take that apart and put it together again at each letter.
+// and it would take that apart and put it together again at each letter. That they fit is no field of it: `moved` makes one of any entry.
 #[derive(Clone, Copy)]
 pub struct Tail {
     pub code: usize,
     pub phase: usize,
 }
 
-// The kind is 0 where the syllables stay, 1 where a T meets the last of them, 2 where HT is added and 3 where SHT is.
+// The kind is 0 where the syllables stay, 1 where a T meets the last of them, 2 where HT is added and 3 where SHT is. A number and no enum: the
+// table has it, and the code of a syllable that is added is pushed without a branch.
 #[derive(Clone, Copy)]
 pub(crate) struct Step {
     pub kind: u8,

@@ -1,7 +1,7 @@
 // Slots: the codes and the numbers of a request, and the answer in text.
+use exact::Refusal;
 use ring::Triple;
 use shown::{numbers, text};
-use slot::Answer;
 use std::io;
 use std::io::Write;
 
@@ -48,11 +48,14 @@ fn to_last(digits: &[u8]) -> &[u8] {
 
 fn written<W: Write>(
     out: &mut W,
-    answer: Answer,
+    answer: Result<u64, Refusal>,
     syllables: &[u8; 4096],
     rest: &[u64; 6],
 ) -> io::Result<()> {
-    write!(out, "{} {}", answer.refusal, answer.length)?;
+    match answer {
+        Ok(length) => write!(out, "0 {length}")?,
+        Err(refusal) => write!(out, "{} 0", refusal.number())?,
+    }
     numbers(out, rest)?;
     text(out, b" ")?;
     text(out, to_last(&syllables.map(digit)))

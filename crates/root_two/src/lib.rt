@@ -113,6 +113,7 @@ impl Root {
     }
 }
 
+// The size is asked for and stands in no type: a sum may be over it.
 impl Add for Vect {
     type Output = Vect;
 

@@ -1,6 +1,6 @@
 -- The ways out of the two jobs: what the check refuses is refused; of the rest the rotation that was worked out, s, is divided by root two as often as it
 -- can be, which is its least exponent. Assumes nothing.
-use Rattle.std.specs.Prelude.{◌≡◌, refl, ℕ, ◌+◌, ◌-◌, ◌^◌, ◌≤◌, ℤ, nat_abs, Ok, Err}
+use Rattle.std.specs.Prelude.{◌≡◌, refl, ℕ, ◌+◌, ◌-◌, ◌≤◌, ℤ, nat_abs, Ok, Err}
 use Rattle.std.proofs.Common.{sym, subst, SFits, to_z-of_z}
 use Rattle.std.specs.Int.{w64}
 use Rattle.exact.specs.Meaning.Number.{ints}
@@ -15,7 +15,6 @@ use Rattle.exact.proofs.Whole.Machine.{held}
 use Rattle.exact.proofs.Rotation.Laws.{rotation_written}
 use Rattle.exact.specs.Rotation.Least.{Deepest}
 use Rattle.exact.proofs.Rotation.Least.{quotient, lowered_same, lowered_least, least_moved}
-use Rattle.exact.specs.Rotation.Sizes.{UpC}
 use Rattle.exact.specs.Rotation.Worked.{with_n, columns}
 use Rattle.ring.specs.Meaning.{quad}
 use Rattle.ring.specs.declared.ZOmega.{ZOmega}
@@ -27,7 +26,7 @@ use Rattle.rotation.specs.Meaning.{axes_of, rotation_of, refused, as_answer, Ans
 use Rattle.rotation.specs.Meaning.{refused_count, as_count, AnswersCount, CountOutcome}
 use Rattle.rotation.specs.Shared.{Lowered}
 use Rattle.rotation.specs.Columns.{Held, unitary_held}
-use Rattle.rotation.specs.Turned.{Turned, WorkedOut, columns_high, worked}
+use Rattle.rotation.specs.Turned.{Turned, WorkedOut, worked}
 
 module _ (k : ℤ) (n : ℕ) (z w : ZOmega) where
   pub rotate_refused : (e : Refusal) → CheckOutcome k z w (number e) → RotationOutcome k n z w (as_answer (Err e))
@@ -49,9 +48,6 @@ module _ (k : ℤ) (n : ℕ) (z w : ZOmega) where
     -- of the columns s
     module _ (fits : SFits w64 k) (s : Rotation)
         (is : rotation_of s ≡ record { m = columns ints (quad z) (quad w); e = nat_abs (held w64 k) + nat_abs (held w64 k) }) where
-      pub taken_high : UpC (2 ^ 60) (axes_of s)
-      taken_high = columns_high (nat_abs (held w64 k)) n z w (taken_few fits) (taken_unitary fits) s is
-
       pub taken_worked : (r : Rotation) → Turned n (rotation_of s) (rotation_of r) → WorkedOut (nat_abs k) n z w r
       taken_worked r t =
           subst (λ (y : ℤ). WorkedOut (nat_abs y) n z w r) (to_z-of_z fits)

@@ -8,6 +8,7 @@ ghost use Rattle.rotation.specs.Meaning.{rotation_of};
 ghost use Rattle.rotation.specs.Columns.{HasParts, Twiced, Normed, XFits, YFits, x_of, y_of, Held};
 
 use crate::Rotation;
+use crate::turn::Straight;
 use ring::ZOmega;
 use root_two::{Root, Vect};
 use unitary::DOmegaUnitary;
@@ -93,18 +94,20 @@ fn z_becomes(z: ZOmega, w: ZOmega) -> Vect
 }
 
 // Over root two to the 2k.
-pub(crate) fn columns(t: DOmegaUnitary) -> Rotation
+pub(crate) fn columns(t: DOmegaUnitary) -> Straight
     requires fact_1 { t.k ≤ 60 }
     requires fact_2 { Held (quad t.z) (quad t.w) }
-    ensures { rotation_of result ≡ record { m = columns ints (quad t.z) (quad t.w); e = t.k + t.k } }
+    ensures { rotation_of result.rotation ≡ record { m = columns ints (quad t.z) (quad t.w); e = t.k + t.k } }
 {
     let z = square(t.z);
     let w = square(t.w);
     let m = twice(t.z.mul(t.w));
-    Rotation {
-        x: x_becomes(z, w, m),
-        y: y_becomes(z, w, m),
-        z: z_becomes(t.z, t.w),
-        e: t.k + t.k,
+    Straight {
+        rotation: Rotation {
+            x: x_becomes(z, w, m),
+            y: y_becomes(z, w, m),
+            z: z_becomes(t.z, t.w),
+            e: t.k + t.k,
+        },
     }
 }

@@ -1,5 +1,5 @@
 // A rotation turned about Z beforehand, by n eighths: right multiplication by T to the n.
-ghost use Rattle.std.specs.Prelude.{◌≡◌, ◌+◌, ◌^◌, ◌<◌};
+ghost use Rattle.std.specs.Prelude.{◌≡◌, ◌+◌, ◌^◌, ◌≤◌, ◌<◌};
 ghost use Rattle.exact.specs.Meaning.Number.{ints};
 ghost use Rattle.exact.specs.Rotation.Sizes.{UpC};
 ghost use Rattle.exact.specs.Rotation.Worked.{quarter, eighth, quarters};
@@ -8,38 +8,41 @@ ghost use Rattle.rotation.specs.Turned.{Turned};
 
 use crate::Rotation;
 
-impl Rotation {
+// A rotation whose numbers are at most 2^60 in size, as those of a triple with n = 0 and its quarters are: they leave room for an eighth's sums.
+#[derive(Clone, Copy)]
+pub(crate) struct Straight {
+    pub rotation: Rotation,
+    ghost small: { UpC (2 ^ 60) (axes_of rotation) },
+    ghost few: { rotation.e ≤ 120 },
+}
+
+impl Straight {
     // X becomes what Y became, and Y minus what X became.
-    fn quarter(self) -> Rotation
-        requires { UpC (2 ^ 60) (axes_of self) }
-        ensures { rotation_of result ≡ record { m = quarter ints (axes_of self); e = self.e } }
+    fn quarter(self) -> Straight
+        ensures { rotation_of result.rotation ≡ record { m = quarter ints (axes_of self.rotation); e = self.rotation.e } }
     {
-        Rotation {
-            x: self.y,
-            y: -self.x,
-            z: self.z,
-            e: self.e,
+        let Rotation { x, y, z, e } = self.rotation;
+        Straight {
+            rotation: Rotation { x: y, y: -x, z, e },
         }
     }
 
     fn eighth(self) -> Rotation
-        requires fact_1 { UpC (2 ^ 60) (axes_of self) }
-        requires fact_2 { self.e < 255 }
-        ensures { rotation_of result ≡ record { m = eighth ints (axes_of self); e = self.e + 1 } }
+        ensures { rotation_of result ≡ record { m = eighth ints (axes_of self.rotation); e = self.rotation.e + 1 } }
     {
+        let Rotation { x, y, z, e } = self.rotation;
         Rotation {
-            x: self.x + self.y,
-            y: self.y + -self.x,
-            z: self.z.times(),
-            e: self.e + 1,
+            x: x + y,
+            y: y + -x,
+            z: z.times(),
+            e: e + 1,
         }
     }
 
     // At most three.
-    fn quarters(self, n: u8) -> Rotation
-        requires fact_1 { UpC (2 ^ 60) (axes_of self) }
-        requires fact_2 { n < 4 }
-        ensures { rotation_of result ≡ record { m = quarters n (axes_of self); e = self.e } }
+    fn quarters(self, n: u8) -> Straight
+        requires { n < 4 }
+        ensures { rotation_of result.rotation ≡ record { m = quarters n (axes_of self.rotation); e = self.rotation.e } }
     {
         let mut r = self;
         for _ in 0..n {
@@ -49,12 +52,10 @@ impl Rotation {
     }
 
     pub(crate) fn turned(self, n: u8) -> Rotation
-        requires fact_1 { UpC (2 ^ 60) (axes_of self) }
-        requires fact_2 { self.e < 255 }
-        ensures { Turned n (rotation_of self) (rotation_of result) }
+        ensures { Turned n (rotation_of self.rotation) (rotation_of result) }
     {
         let m = n % 8;
         let r = self.quarters(m / 2);
-        if m % 2 == 0 { r } else { r.eighth() }
+        if m % 2 == 0 { r.rotation } else { r.eighth() }
     }
 }

@@ -6,7 +6,6 @@ ghost use Rattle.slot.specs.Meaning.{slot_of};
 ghost use Rattle.slot.specs.Tests.{Ranges, Fronts, sum, Behind};
 ghost use Rattle.slot.specs.Standing.{stack_in, Tells};
 
-use exact::both;
 use reading::steps::Tail;
 use reading::table::Table;
 use reading::{Reading, Text};
@@ -26,9 +25,9 @@ fn codes_right(codes: &[u8]) -> bool
     let [first, others @ ..] = codes else {
         return true;
     };
-    let mut right = both(*first > 0, *first < 4);
+    let mut right = (*first > 0) & (*first < 4);
     for code in others {
-        right = both(right, *code / 2 == 1);
+        right &= *code / 2 == 1;
     }
     right
 }
@@ -52,7 +51,7 @@ fn behind(places: &[u8]) -> bool
 {
     let mut empty = true;
     for place in places {
-        empty = both(empty, *place == 0);
+        empty &= *place == 0;
     }
     empty
 }
@@ -82,7 +81,7 @@ fn check_codes(table: Table, items: &[u8; 4096], rest: &[u64; 6]) -> Option<Text
     ensures { Tells (slot_of items.now rest.now) result }
 {
     let (codes, places) = items.split_at(rest[0] as usize);
-    if both(codes_right(codes), behind(places)) {
+    if codes_right(codes) & behind(places) {
         let r = reading_in(table, letters_of(codes) as usize, rest);
         if r.bytes as u64 == rest[1] {
             return Some(r);

@@ -202,7 +202,10 @@ fn decompose_domega_unitary(t: DOmegaUnitary, work: &mut [u8]) -> Decomposed
     let mut u = t;
     let mut len: usize = 0;
     let mut steps: usize = 0;
-    while let Some((m, next)) = reduce_denomexp(u) {
+    loop {
+        let Some((m, next)) = reduce_denomexp(u) else {
+            break;
+        };
         len += write_block(&mut work[len..], m);
         steps += 1;
         u = next;

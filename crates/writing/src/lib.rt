@@ -125,6 +125,7 @@ impl Ending {
     }
 }
 
+// What puts letters takes the buffer and a place in it, and hands on the next place: cut for each call, a slice would need a place too.
 pub fn put_letter(buf: &mut [u8], at: usize, letter: u8) -> usize
     requires { at < length buf.old }
     ensures { Put buf.old at (letter ∷ []) buf.new result }

@@ -2,8 +2,5 @@
 use Rattle.clifford.proofs.Cliffords.{inverse_job}
 use Rattle.clifford.proofs.clifford_inverse.Goals as goal
 
-pub inverse-requires : goal.inverse-requires
-inverse-requires c = c.new.ensures.ranged
-
 pub returns : goal.returns
 returns c = search inverse_job

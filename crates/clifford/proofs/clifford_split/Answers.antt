@@ -2,8 +2,5 @@
 use Rattle.clifford.proofs.Cliffords.{split_job}
 use Rattle.clifford.proofs.clifford_split.Goals as goal
 
-pub decompose_coset-requires : goal.decompose_coset-requires
-decompose_coset-requires c = c.new.ensures.ranged
-
 pub returns : goal.returns
 returns c = search split_job
