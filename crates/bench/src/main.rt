@@ -11,7 +11,8 @@ use std::io;
 use std::io::Read;
 use std::process::ExitCode;
 
-// The answer to a whole input, of which the buffer has the first `size` bytes: all, or as many as it holds.
+// The answer to a whole input, of which the buffer has the first `size` bytes: all, or as many as it holds. The buffer and no slice of it, as only
+// a full one leaves more to read.
 fn answer(buffer: &[u8], size: usize, out: &mut [u8; 512]) -> usize
     requires fact_1 { longest_record < length buffer.now }
     requires fact_2 { size ≤ length buffer.now }

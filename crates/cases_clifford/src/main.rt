@@ -1,10 +1,7 @@
 // Cases of job 6, a line each, compared with stdout; then all inverses, and the Rust's rows against what the product works out.
 #![tactic(auto)]
 
-ghost use Rattle.std.specs.Prelude.{◌<◌};
-
-use clifford::{Axis, Clifford};
-use shown::{number, text};
+use clifford::{Clifford, Four};
 use std::io;
 use std::io::Write;
 
@@ -156,139 +153,80 @@ const CONJ3_TABLE: [Clifford; 24] = [
     },
 ];
 
-fn clifford_of<W: Write>(out: &mut W, q: Clifford) -> io::Result<()> {
-    number(out, q.a as u64)?;
-    text(out, b",")?;
-    number(out, q.b as u64)?;
-    text(out, b",")?;
-    number(out, q.c as u64)?;
-    text(out, b",")?;
-    number(out, q.d as u64)?;
-    text(out, b"\n")
+fn show<W: Write>(out: &mut W, q: Clifford) -> io::Result<()> {
+    writeln!(out, "{},{},{},{}", q.a, q.b, q.c, q.d)
 }
 
-fn axis_of<W: Write>(out: &mut W, axis: Axis) -> io::Result<()> {
-    match axis {
-        Axis::I => text(out, b"I "),
-        Axis::H => text(out, b"H "),
-        Axis::SH => text(out, b"SH "),
+fn four_of(q: Clifford) -> Four {
+    Four {
+        a: i32::from(q.a),
+        b: i32::from(q.b),
+        c: i32::from(q.c),
+        d: i32::from(q.d),
     }
 }
 
 fn job6<W: Write>(out: &mut W) -> io::Result<()> {
-    text(out, b"H S ")?;
-    clifford_of(out, clifford::clifford_product(1, 0, 1, 5, 0, 0, 1, 0))?;
-    text(out, b"S H ")?;
-    clifford_of(out, clifford::clifford_product(0, 0, 1, 0, 1, 0, 1, 5))?;
-    text(out, b"inverse of 1,1,0,0 ")?;
-    clifford_of(out, clifford::clifford_inverse(1, 1, 0, 0))?;
-    text(out, b"and times it ")?;
-    clifford_of(out, clifford::clifford_product(2, 1, 2, 2, 1, 1, 0, 0))?;
-    text(out, b"the least numbers, twice inverted ")?;
-    let q = clifford::clifford_inverse(
-        -2147483647 - 1,
-        -2147483647 - 1,
-        -2147483647 - 1,
-        -2147483647 - 1,
-    );
-    clifford_of(
+    let h = Four::from([1, 0, 1, 5]);
+    let s = Four::from([0, 0, 1, 0]);
+    write!(out, "H S ")?;
+    show(out, clifford::clifford_product(h, s))?;
+    write!(out, "S H ")?;
+    show(out, clifford::clifford_product(s, h))?;
+    let x = Four::from([1, 1, 0, 0]);
+    write!(out, "inverse of 1,1,0,0 ")?;
+    show(out, clifford::clifford_inverse(x))?;
+    write!(out, "and times it ")?;
+    show(out, clifford::clifford_product(Four::from([2, 1, 2, 2]), x))?;
+    write!(out, "the least numbers, twice inverted ")?;
+    let q = clifford::clifford_inverse(Four::from([i32::MIN; 4]));
+    show(out, clifford::clifford_inverse(four_of(q)))?;
+    write!(out, "-1,-1,-1,-1 times I ")?;
+    show(
         out,
-        clifford::clifford_inverse(q.a as i32, q.b as i32, q.c as i32, q.d as i32),
+        clifford::clifford_product(Four::from([-1; 4]), Four::from([0; 4])),
     )?;
-    text(out, b"-1,-1,-1,-1 times I ")?;
-    clifford_of(out, clifford::clifford_product(-1, -1, -1, -1, 0, 0, 0, 0))?;
-    text(out, b"the greatest, split ")?;
-    let s = clifford::clifford_split(2147483647, 2147483647, 2147483647, 2147483647);
-    let axis = s.axis;
-    let rest = s.rest;
-    axis_of(out, axis)?;
-    clifford_of(out, rest)
+    let split = clifford::clifford_split(Four::from([i32::MAX; 4]));
+    write!(out, "the greatest, split {:?} ", split.axis)?;
+    show(out, split.rest)
 }
 
-fn differ(p: Clifford, q: Clifford) -> bool {
-    if p.a != q.a {
-        return true;
-    }
-    if p.b != q.b {
-        return true;
-    }
-    if p.c != q.c {
-        return true;
-    }
-    p.d != q.d
-}
+const UNIT: Clifford = Clifford {
+    a: 0,
+    b: 0,
+    c: 0,
+    d: 0,
+};
 
-// Whether the inverse times the Clifford is not the unit.
-fn wrong_inverse(a: i32, b: i32, c: i32, d: i32) -> bool {
-    let q = clifford::clifford_inverse(a, b, c, d);
-    let p = clifford::clifford_product(q.a as i32, q.b as i32, q.c as i32, q.d as i32, a, b, c, d);
-    let unit = Clifford {
-        a: 0,
-        b: 0,
-        c: 0,
-        d: 0,
-    };
-    differ(p, unit)
-}
-
-// The quadruple at a place among all 192.
-fn one_inverse<W: Write>(out: &mut W, n: u8) -> io::Result<()> {
-    let a = n / 64;
-    let b = n / 32 % 2;
-    let c = n / 8 % 4;
-    let d = n % 8;
-    if wrong_inverse(a as i32, b as i32, c as i32, d as i32) {
-        text(out, b"wrong inverse ")?;
-        number(out, n as u64)?;
-        text(out, b"\n")?;
-    }
-    Ok(())
-}
-
+// Each of the 192 Cliffords times its inverse.
 fn inverses<W: Write>(out: &mut W) -> io::Result<()> {
-    let mut n: u8 = 0;
-    while n < 192 {
-        one_inverse(out, n)?;
-        n += 1;
+    for n in 0..192 {
+        let x = Four::from([n / 64, n / 32 % 2, n / 8 % 4, n % 8]);
+        let q = four_of(clifford::clifford_inverse(x));
+        if clifford::clifford_product(q, x) != UNIT {
+            writeln!(out, "wrong inverse {n}")?;
+        }
     }
-    Ok(())
+    writeln!(out, "all 192 inverses tried")
 }
 
-// A row as the product works it out.
-fn worked_out(i: u8) -> Clifford {
-    let a = i / 8;
-    let b = i / 4 % 2;
-    let c = i % 4;
-    clifford::clifford_product(0, b as i32, c as i32, 0, a as i32, 0, 0, 0)
-}
-
-fn one_row<W: Write>(out: &mut W, i: u8) -> io::Result<()>
-    requires { i < 24 }
-{
-    let q = worked_out(i);
-    if differ(q, CONJ3_TABLE[i as usize]) {
-        text(out, b"wrong row ")?;
-        number(out, i as u64)?;
-        text(out, b": ")?;
-        clifford_of(out, q)?;
-    }
-    Ok(())
-}
-
+// Each row against what the product works out.
 fn rows<W: Write>(out: &mut W) -> io::Result<()> {
-    let mut i: u8 = 0;
-    while i < 24 {
-        one_row(out, i)?;
-        i += 1;
+    for (i, row) in CONJ3_TABLE.iter().enumerate() {
+        let n = i as i32;
+        let left = Four::from([0, n / 4 % 2, n % 4, 0]);
+        let q = clifford::clifford_product(left, Four::from([n / 8, 0, 0, 0]));
+        if q != *row {
+            write!(out, "wrong row {i}: ")?;
+            show(out, q)?;
+        }
     }
-    Ok(())
+    writeln!(out, "all 24 rows of CONJ3_TABLE tried")
 }
 
 fn main(rt: HostRuntime) -> io::Result<()> {
     let mut out = rt.stdout();
     job6(&mut out)?;
     inverses(&mut out)?;
-    text(&mut out, b"all 192 inverses tried\n")?;
-    rows(&mut out)?;
-    text(&mut out, b"all 24 rows of CONJ3_TABLE tried\n")
+    rows(&mut out)
 }

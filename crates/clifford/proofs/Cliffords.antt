@@ -1,8 +1,6 @@
 -- Products, inverses, splits and the passing of a T, as the moves and the tables give them, are right for matrices. Assumes nothing.
 use Rattle.std.specs.Prelude.{◌≡◌, refl, List, [], ◌∷◌, ◌++◌, ℕ, zero, suc, ◌+◌, ◌-◌, ◌*◌, ◌<◌, ◌≤◌, ℤ}
-use Rattle.std.proofs.Common.{sym, ◌∙◌, ap, append_assoc, append-nil, arith, SFits}
-use Rattle.std.specs.Int.{w32}
-use Rattle.exact.proofs.Whole.Machine.{held}
+use Rattle.std.proofs.Common.{sym, ◌∙◌, ap, append_assoc, append-nil, arith}
 use Rattle.exact.specs.Meaning.Word.{Letter, H, S, X, W, T'}
 use Rattle.exact.specs.Meaning.Normal.{times}
 use Rattle.exact.specs.Meaning.Clifford.{cycle}
@@ -12,7 +10,6 @@ use Rattle.clifford.specs.declared.Coset.{Coset}
 use Rattle.clifford.specs.declared.Tconj.{Tconj}
 use Rattle.clifford.specs.Meaning.{letters, axis_word, reduced, Ranged, Product, Inverse, Split}
 use Rattle.clifford.specs.Arguments.{Reduced}
-use Rattle.clifford.proofs.Remainder.{reduced_back}
 use Rattle.clifford.specs.Words.{◌≈◌}
 use Rattle.clifford.proofs.Words.{by_test, by_refl, by_eq, by_sym, ◌⨾◌, join, under, before, other_side, lessened, cycles, exes, esses}
 use Rattle.clifford.proofs.Words.{doubleyous, pass, pass_S}
@@ -213,20 +210,12 @@ module _ (x : Clifford) where
   split_SH m n q r f g = rw (g, f) (last x m n)
 
 -- ---- job 6: x is what the program made of four numbers
-abbrev Read : ℤ → ℤ → ℤ → ℤ → Clifford → Type 0
-Read a b c d x = Reduced (held w32 a) (held w32 b) (held w32 c) (held w32 d) x
-
-module _ (a b c d : ℤ) (fa : SFits w32 a) (fb : SFits w32 b) (fc : SFits w32 c) (fd : SFits w32 d) (x : Clifford) (read : Read a b c d x) where
-  read_is : reduced a b c d ≡ x
-  read_is = sym (read.is ∙ reduced_back a b c d fa fb fc fd)
-
+module _ (a b c d : ℤ) (x : Clifford) (read : Reduced a b c d x) where
   pub inverse_job : (r : Clifford) → r ≡ inv_c x → Inverse (reduced a b c d) r
-  inverse_job r g = rw (read_is, g) (inv_right x read.ranged)
+  inverse_job r g = rw (sym read.is, g) (inv_right x read.ranged)
 
   pub split_job : (r : Coset) → r ≡ split_c x → Split (reduced a b c d) r
-  split_job r g = rw (read_is, g) (split_right x read.ranged)
+  split_job r g = rw (sym read.is, g) (split_right x read.ranged)
 
-  pub product_job : (e f g h : ℤ) → SFits w32 e → SFits w32 f → SFits w32 g → SFits w32 h → (y r : Clifford) → Read e f g h y
-      → r ≡ mul_c x y → Product (reduced a b c d) (reduced e f g h) r
-  product_job e f g h fe ff fg fh y r other i =
-      rw (read_is, sym (other.is ∙ reduced_back e f g h fe ff fg fh), i) (mul_right x y read.ranged other.ranged)
+  pub product_job : (e f g h : ℤ) → (y r : Clifford) → Reduced e f g h y → r ≡ mul_c x y → Product (reduced a b c d) (reduced e f g h) r
+  product_job e f g h y r other i = rw (sym read.is, sym other.is, i) (mul_right x y read.ranged other.ranged)

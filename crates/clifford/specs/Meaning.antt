@@ -1,5 +1,5 @@
 -- What job 6 promises: Clifford product, inverse and coset split, by matrices.
-use Rattle.std.specs.Prelude.{◌≡◌, List, [], ◌∷◌, ◌++◌, ℕ, ◌-◌, ◌%◌, ℤ, pos, negsuc}
+use Rattle.std.specs.Prelude.{◌≡◌, List, [], ◌∷◌, ◌++◌, ℕ, ◌-◌, ◌%◌, ℤ, pos, negsuc, get_or}
 use Rattle.exact.specs.Meaning.Matrix.{Same}
 use Rattle.exact.specs.Meaning.Word.{Letter, H, S, word}
 use Rattle.exact.specs.Meaning.Clifford as meaning
@@ -7,6 +7,7 @@ use Rattle.exact.specs.Meaning.Clifford.{Within, clifford}
 use Rattle.clifford.specs.declared.Axis.{Axis}
 use Rattle.clifford.specs.declared.Clifford.{Clifford}
 use Rattle.clifford.specs.declared.Coset.{Coset}
+use Rattle.clifford.specs.declared.Four.{Four}
 
 -- ---- the program's Cliffords as those of docs/SCOPE.md, Triples
 abbrev pub quad : Clifford → meaning.Clifford
@@ -28,6 +29,10 @@ axis_word Axis.H = H ∷ []
 axis_word Axis.SH = S ∷ H ∷ []
 
 -- ---- arguments
+-- four numbers in a list
+abbrev pub listed : List ℤ → Four
+listed x = record { a = get_or x 0 (pos 0); b = get_or x 1 (pos 0); c = get_or x 2 (pos 0); d = get_or x 3 (pos 0) }
+
 -- the remainder from 0 up: -(n+1) leaves m-1 less what n leaves
 abbrev pub modulo : ℤ → ℕ → ℕ
 modulo (pos n) m = n % m

@@ -1,21 +1,30 @@
 // Job 6: Cliffords. (a,b,c,d) is E^a X^b S^c omega^d; product, inverse, coset split and the passing of a T, by three tables and the moves of X and S past E.
 #![tactic(auto)]
 
-ghost use Rattle.std.specs.Prelude.{◌≡◌, ◌≤◌, ◌<◌};
-ghost use Rattle.clifford.specs.Meaning.{Ranged, reduced, modulo, Product, Inverse, Split};
+ghost use Rattle.std.specs.Prelude.{◌≡◌, ◌<◌};
+ghost use Rattle.clifford.specs.Meaning.{axis_number, Ranged, listed, reduced, Product, Inverse, Split};
 ghost use Rattle.clifford.specs.Arguments.{Reduced};
 ghost use Rattle.clifford.specs.Tables.{Row2, RowInv, RowT};
 ghost use Rattle.clifford.specs.Moves.{move_at, Past, letter_at, moved, Preceded};
 ghost use Rattle.clifford.specs.Cliffords.{reduce, mul_c, inv_c, split_c, tconj_c};
 
-#[derive(Clone, Copy)]
+#[derive(Clone, Copy, PartialEq, Eq, Debug)]
 pub enum Axis {
     I,
     H,
     SH,
 }
 
-#[derive(Clone, Copy)]
+// I is 0, H is 1 and SH is 2.
+impl From<Axis> for u8 {
+    ghost from_gives = { λ axis n. n ≡ axis_number axis };
+
+    fn from(axis: Axis) -> u8 {
+        axis as u8
+    }
+}
+
+#[derive(Clone, Copy, PartialEq, Eq)]
 pub struct Clifford {
     pub a: u8,
     pub b: u8,
@@ -24,10 +33,28 @@ pub struct Clifford {
 }
 
 // An axis times what is left: a Clifford taken apart, or what a T leaves behind itself.
-#[derive(Clone, Copy)]
+#[derive(Clone, Copy, PartialEq, Eq)]
 pub struct Coset {
     pub axis: Axis,
     pub rest: Clifford,
+}
+
+// Four numbers as they are handed in, in their ranges or not.
+#[derive(Clone, Copy)]
+pub struct Four {
+    pub a: i32,
+    pub b: i32,
+    pub c: i32,
+    pub d: i32,
+}
+
+impl From<[i32; 4]> for Four {
+    ghost from_gives = { λ x r. r ≡ listed x };
+
+    fn from(x: [i32; 4]) -> Four {
+        let [a, b, c, d] = x;
+        Four { a, b, c, d }
+    }
 }
 
 const CLIFFORD_H: Clifford = Clifford {
@@ -323,8 +350,7 @@ fn past(l: Passing, a: u8) -> Clifford
     requires { a < 3 }
     ensures { Past l a result }
 {
-    let i = move_at(l, a);
-    MOVES[i as usize]
+    MOVES[move_at(l, a) as usize]
 }
 
 // The letter of X^b S^c at a place.
@@ -348,24 +374,6 @@ fn tconj_row(i: u8) -> Tconj
     TCONJ_TABLE[i as usize]
 }
 
-// The remainder from 0 up, as rem_euclid has it; -1 - x is never out of range.
-fn rem_euclid(x: i32, m: u32) -> u8
-    requires { (0 < m) × (m ≤ 8) }
-    ensures { result ≡ modulo x m }
-{
-    if x < 0 {
-        let y = -1 - x;
-        let n = y as u32;
-        let k = n % m;
-        let r = m - 1 - k;
-        r as u8
-    } else {
-        let n = x as u32;
-        let k = n % m;
-        k as u8
-    }
-}
-
 // The numbers brought into their ranges.
 fn ranged(a: u8, b: u8, c: u8, d: u8) -> Clifford
     ensures { result ≡ reduce a b c d }
@@ -379,14 +387,14 @@ fn ranged(a: u8, b: u8, c: u8, d: u8) -> Clifford
 }
 
 impl Clifford {
-    fn new(a: i32, b: i32, c: i32, d: i32) -> Clifford
-        ensures { Reduced a b c d result }
+    fn new(x: Four) -> Clifford
+        ensures { Reduced x.a x.b x.c x.d result }
     {
         Clifford {
-            a: rem_euclid(a, 3),
-            b: rem_euclid(b, 2),
-            c: rem_euclid(c, 4),
-            d: rem_euclid(d, 8),
+            a: x.a.rem_euclid(3) as u8,
+            b: x.b.rem_euclid(2) as u8,
+            c: x.c.rem_euclid(4) as u8,
+            d: x.d.rem_euclid(8) as u8,
         }
     }
 
@@ -413,10 +421,8 @@ impl Clifford {
         ensures { Preceded b c self result }
     {
         let mut q = self;
-        let mut left = b + c;
-        while left > 0 {
-            left -= 1;
-            q = q.moved(letter_at(b, left));
+        for n in (0..b + c).rev() {
+            q = q.moved(letter_at(b, n));
         }
         q
     }
@@ -448,20 +454,14 @@ impl Clifford {
                 axis: Axis::I,
                 rest: self,
             },
-            1 => {
-                let rest = CLIFFORD_H.inverse().product(self);
-                Coset {
-                    axis: Axis::H,
-                    rest: rest,
-                }
-            }
-            _ => {
-                let rest = CLIFFORD_SH.inverse().product(self);
-                Coset {
-                    axis: Axis::SH,
-                    rest: rest,
-                }
-            }
+            1 => Coset {
+                axis: Axis::H,
+                rest: CLIFFORD_H.inverse().product(self),
+            },
+            _ => Coset {
+                axis: Axis::SH,
+                rest: CLIFFORD_SH.inverse().product(self),
+            },
         }
     }
 
@@ -471,32 +471,30 @@ impl Clifford {
         ensures { result ≡ tconj_c self }
     {
         let row = tconj_row(self.a * 2 + self.b);
-        let axis = row.axis;
-        let rest = ranged(0, self.b, self.c + row.c, self.d + row.d);
         Coset {
-            axis: axis,
-            rest: rest,
+            axis: row.axis,
+            rest: ranged(0, self.b, self.c + row.c, self.d + row.d),
         }
     }
 }
 
 // Job 6: the product of two Cliffords, four numbers each.
-pub fn clifford_product(a: i32, b: i32, c: i32, d: i32, e: i32, f: i32, g: i32, h: i32) -> Clifford
-    ensures { Product (reduced a b c d) (reduced e f g h) result }
+pub fn clifford_product(x: Four, y: Four) -> Clifford
+    ensures { Product (reduced x.a x.b x.c x.d) (reduced y.a y.b y.c y.d) result }
 {
-    Clifford::new(a, b, c, d).product(Clifford::new(e, f, g, h))
+    Clifford::new(x).product(Clifford::new(y))
 }
 
 // Job 6: the inverse.
-pub fn clifford_inverse(a: i32, b: i32, c: i32, d: i32) -> Clifford
-    ensures { Inverse (reduced a b c d) result }
+pub fn clifford_inverse(x: Four) -> Clifford
+    ensures { Inverse (reduced x.a x.b x.c x.d) result }
 {
-    Clifford::new(a, b, c, d).inverse()
+    Clifford::new(x).inverse()
 }
 
 // Job 6: the coset split.
-pub fn clifford_split(a: i32, b: i32, c: i32, d: i32) -> Coset
-    ensures { Split (reduced a b c d) result }
+pub fn clifford_split(x: Four) -> Coset
+    ensures { Split (reduced x.a x.b x.c x.d) result }
 {
-    Clifford::new(a, b, c, d).decompose_coset()
+    Clifford::new(x).decompose_coset()
 }

@@ -1,8 +1,7 @@
 -- From a job's outcome to its export's: the numbers as the machine reads them back, and a lemma for each export over plain values. Assumes nothing.
-use Rattle.std.specs.Prelude.{◌≡◌, List, ℕ, ◌<◌, ◌^◌, Float, ℤ, Ok, Err}
+use Rattle.std.specs.Prelude.{◌≡◌, List, ℕ, Float, ℤ, Ok, Err}
 use Rattle.std.proofs.Common.{◌∙◌, ap, subst, SFits, to_z-of_z}
-use Rattle.std.specs.Int.Signed.{mag}
-use Rattle.std.specs.Int.{w32, w64}
+use Rattle.std.specs.Int.{w64}
 use Rattle.exact.specs.Meaning.Word.{Letter}
 use Rattle.exact.specs.Meaning.Lent.{lent}
 use Rattle.exact.specs.Meaning.Limits.{no_refusal}
@@ -14,7 +13,7 @@ use Rattle.ring.specs.declared.Triple.{Triple}
 use Rattle.unitary.specs.declared.DOmegaUnitary.{DOmegaUnitary}
 use Rattle.unitary.specs.Meaning.{none, Checked, ReduceOutcome, as_checked, FromGates, MatrixOutcome}
 use Rattle.normal_form.specs.Meaning.{Written, WordOutcome}
-use Rattle.clifford.specs.Meaning.{reduced, Product, Inverse, Split}
+use Rattle.clifford.specs.Meaning.{listed, reduced, Product, Inverse, Split}
 use Rattle.clifford.specs.declared.Clifford.{Clifford}
 use Rattle.clifford.specs.declared.Coset.{Coset}
 use Rattle.synthesis_of_clifford_t.specs.Meaning.{Synthesis, SynthesiseOutcome}
@@ -23,11 +22,10 @@ use Rattle.qasm.specs.Meaning.{WriteOutcome, ReadOutcome}
 use Rattle.qasm.specs.declared.Written.{Written as Converted}
 use Rattle.view.specs.Meaning.Outcome.{Answer, ViewOutcome}
 use Rattle.rotation.specs.Meaning.{Answer as Rotated, Count, RotationOutcome, CountOutcome}
-use Rattle.handed.specs.declared.Four.{Four}
+use Rattle.clifford.specs.declared.Four.{Four}
 use Rattle.dunrossel.specs.Meaning.Exports.{Reduces, Multiplies, Views, Counts, Rotates, Writes, Synthesises, Converts}
 use Rattle.dunrossel.specs.Meaning.Exports.{argument, Multiplied, Inverted, Parted}
-use Rattle.handed.specs.Meaning.{z_of, w_of, triple_of, ten, eight_of, nineteen_of, counts, counts_in, four_of, five_of, listed}
-use Rattle.handed.specs.Numbers.{held_small}
+use Rattle.handed.specs.Meaning.{z_of, w_of, triple_of, ten, eight_of, nineteen_of, counts, counts_in, four_of, five_of}
 
 -- ---- triples: what was said of the numbers read back is said of those handed in
 module _ (k : ℤ) {z w : ZOmega} (zw : List ℤ) (fits : SFits w64 k) (z_is : z ≡ z_of zw) (w_is : w ≡ w_of zw) where
@@ -127,40 +125,25 @@ module _ (old new : List ℕ) (j : Converted) (out : List ℕ) where
   letters_read t = converts (ReadOutcome t old) new j out
 
 -- ---- Cliffords
--- each of the four numbers fits
-pub record Small (f : Four) : Type 0 where
-  pub a_fits : mag f.a < 2 ^ 31
-  pub b_fits : mag f.b < 2 ^ 31
-  pub c_fits : mag f.c < 2 ^ 31
-  pub d_fits : mag f.d < 2 ^ 31
+argument_is : (x : List ℤ) (f : Four) → f ≡ listed x → reduced f.a f.b f.c f.d ≡ argument x
+argument_is x f e = ap (λ (g : Four). reduced g.a g.b g.c g.d) e
 
-abbrev pub read_back : Four → Clifford
-read_back f = reduced (held w32 f.a) (held w32 f.b) (held w32 f.c) (held w32 f.d)
+module _ (x : List ℤ) (f : Four) (e : f ≡ listed x) where
+  pub inverted : (j : Clifford) (out : List ℤ) → Inverse (reduced f.a f.b f.c f.d) j → out ≡ four_of j → Inverted x out
+  inverted j out o is = record { job = j; outcome = subst (λ (q : Clifford). Inverse q j) (argument_is x f e) o; is = is }
 
-argument_held : (x : List ℤ) (f : Four) → f ≡ listed x → Small f → read_back f ≡ argument x
-argument_held x f e s =
-    (λ i. reduced
-    (held_small f.a s.a_fits i)
-    (held_small f.b s.b_fits i)
-    (held_small f.c s.c_fits i)
-    (held_small f.d s.d_fits i))
-    ∙ ap (λ g. reduced g.a g.b g.c g.d) e
+  pub parted : (j : Coset) (out : List ℤ) → Split (reduced f.a f.b f.c f.d) j → out ≡ five_of j → Parted x out
+  parted j out o is = record { job = j; outcome = subst (λ (q : Clifford). Split q j) (argument_is x f e) o; is = is }
 
-module _ (x : List ℤ) (f : Four) (e : f ≡ listed x) (s : Small f) where
-  pub inverted : (j : Clifford) (out : List ℤ) → Inverse (read_back f) j → out ≡ four_of j → Inverted x out
-  inverted j out o is = record { job = j; outcome = subst (λ (q : Clifford). Inverse q j) (argument_held x f e s) o; is = is }
-
-  pub parted : (j : Coset) (out : List ℤ) → Split (read_back f) j → out ≡ five_of j → Parted x out
-  parted j out o is = record { job = j; outcome = subst (λ (q : Clifford). Split q j) (argument_held x f e s) o; is = is }
-
-  pub multiplied : (y : List ℤ) (g : Four) → g ≡ listed y → Small g → (j : Clifford) (out : List ℤ) → Product (read_back f) (read_back g) j
+  pub multiplied : (y : List ℤ) (g : Four) → g ≡ listed y → (j : Clifford) (out : List ℤ)
+      → Product (reduced f.a f.b f.c f.d) (reduced g.a g.b g.c g.d) j
       → out ≡ four_of j
       → Multiplied x y out
-  multiplied y g e' s' j out o is =
+  multiplied y g e' j out o is =
       record {
         job = j;
         outcome =
-            subst (λ (q : Clifford). Product (argument x) q j) (argument_held y g e' s')
-            (subst (λ (q : Clifford). Product q (read_back g) j) (argument_held x f e s) o);
+            subst (λ (q : Clifford). Product (argument x) q j) (argument_is y g e')
+            (subst (λ (q : Clifford). Product q (reduced g.a g.b g.c g.d) j) (argument_is x f e) o);
         is = is;
       }

@@ -1,7 +1,7 @@
 // The library that other programs link: every job, with numbers and slices only.
 #![tactic(auto)]
 
-ghost use Rattle.std.specs.Prelude.{◌≤◌, length};
+ghost use Rattle.std.specs.Prelude.{◌≡◌, ◌≤◌, length};
 ghost use Rattle.exact.specs.Meaning.Limits.{enough};
 ghost use Rattle.exact.specs.Meaning.Lent.{lent};
 ghost use Rattle.dunrossel.specs.Meaning.Exports.{Reduces, Multiplies, Views, Counts, Rotates};
@@ -10,10 +10,13 @@ ghost use Rattle.dunrossel.specs.Meaning.Exports.{Multiplied, Inverted, Parted};
 ghost use Rattle.dunrossel.specs.Meaning.Bench.{NumbersOutcome, BenchOutcome};
 ghost use Rattle.handed.specs.Meaning.{counts_of, steps_of};
 ghost use Rattle.record.specs.Meaning.{numbers, taken_record};
+ghost use Rattle.slot.specs.Meaning.{answer_of};
 ghost use Rattle.normal_form.specs.Meaning.{Normalises, DropsPhase};
 ghost use Rattle.circuit.specs.Meaning.{two, three};
 ghost use Rattle.qasm.specs.Meaning.{WriteOutcome, ReadOutcome};
 
+use clifford::Four;
+use exact::Refusal;
 use qasm::Edition;
 use ring::Triple;
 
@@ -79,6 +82,23 @@ pub fn dunrossel_phase_free(word: &[u8], buf: &mut [u8], out: &mut [u64; 3]) -> 
     }
 }
 
+// The length, or 0 where it is refused.
+fn put_length(answer: Result<u64, Refusal>, length: &mut u64) -> u8
+    ensures refusal { result ≡ (answer_of answer).refusal }
+    ensures length { length.new ≡ (answer_of answer).length }
+{
+    match answer {
+        Ok(bytes) => {
+            *length = bytes;
+            exact::ACCEPTED
+        }
+        Err(refusal) => {
+            *length = 0;
+            refusal.number()
+        }
+    }
+}
+
 pub fn dunrossel_slot_add(
     letter: u8,
     syllables: &mut [u8; 4096],
@@ -87,41 +107,33 @@ pub fn dunrossel_slot_add(
 ) -> u8
     ensures { Extends letter syllables.old rest.old (result, (syllables.new, (rest.new, length.new))) }
 {
-    let answer = slot::add(letter, syllables, rest);
-    *length = answer.length;
-    answer.refusal
+    put_length(slot::add(letter, syllables, rest), length)
 }
 
 pub fn dunrossel_slot_length(syllables: &[u8; 4096], rest: &[u64; 6], length: &mut u64) -> u8
     ensures { Measures syllables.now rest.now (result, length.new) }
 {
-    let answer = slot::length(syllables, rest);
-    *length = answer.length;
-    answer.refusal
+    put_length(slot::length(syllables, rest), length)
 }
 
 pub fn dunrossel_clifford_product(x: &[i32; 4], y: &[i32; 4], out: &mut [i32; 4])
     ensures { Multiplied x.now y.now out.new }
 {
-    let p = handed::four_of(x);
-    let q = handed::four_of(y);
-    let answer = clifford::clifford_product(p.a, p.b, p.c, p.d, q.a, q.b, q.c, q.d);
+    let answer = clifford::clifford_product(Four::from(*x), Four::from(*y));
     handed::put_clifford(answer, out);
 }
 
 pub fn dunrossel_clifford_inverse(x: &[i32; 4], out: &mut [i32; 4])
     ensures { Inverted x.now out.new }
 {
-    let q = handed::four_of(x);
-    let answer = clifford::clifford_inverse(q.a, q.b, q.c, q.d);
+    let answer = clifford::clifford_inverse(Four::from(*x));
     handed::put_clifford(answer, out);
 }
 
 pub fn dunrossel_clifford_coset(x: &[i32; 4], out: &mut [i32; 5])
     ensures { Parted x.now out.new }
 {
-    let q = handed::four_of(x);
-    let answer = clifford::clifford_split(q.a, q.b, q.c, q.d);
+    let answer = clifford::clifford_split(Four::from(*x));
     handed::put_coset(answer, out);
 }
 

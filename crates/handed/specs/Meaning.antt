@@ -12,7 +12,6 @@ use Rattle.qasm.specs.declared.Written.{Written as Converted}
 use Rattle.view.specs.declared.matrix.View.{View}
 use Rattle.root_two.specs.declared.Root.{Root}
 use Rattle.rotation.specs.declared.Rotation.{Rotation}
-use Rattle.handed.specs.declared.Four.{Four}
 
 -- ---- triples: zw is z.a z.b z.c z.d w.a w.b w.c w.d; the ten are k, n, then zw
 abbrev pub z_of : List ℤ → ZOmega
@@ -54,9 +53,6 @@ abbrev pub counts_in : Converted → List ℕ
 counts_in r = r.place ∷ r.bytes ∷ []
 
 -- ---- Cliffords: four numbers; the coset's five are the axis (0, 1 for H, 2 for SH) and the rest
-abbrev pub listed : List ℤ → Four
-listed x = record { a = get_or x 0 (pos 0); b = get_or x 1 (pos 0); c = get_or x 2 (pos 0); d = get_or x 3 (pos 0) }
-
 abbrev pub four_of : Clifford → List ℤ
 four_of q = pos q.a ∷ pos q.b ∷ pos q.c ∷ pos q.d ∷ []
 

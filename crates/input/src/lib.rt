@@ -15,6 +15,7 @@ pub fn read_full<R: Read>(from: &mut R, buf: &mut [u8]) -> io::Result<usize>
     ensures end { IfOk result (λ n. n < length buf.new → IsAtEnd (R.remaining from.new)) }
 {
     let mut done = 0;
+    // No `read_exact`, as a stream that ends sooner is no error, and no `read_to_end`, as it needs a heap. A turn reads as many bytes as there are.
     while done < buf.len() {
         let n = from.read(&mut buf[done..])?;
         if n == 0 {

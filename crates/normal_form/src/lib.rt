@@ -42,7 +42,7 @@ fn write(
     if bytes > buf.len() {
         return Err(Refusal::Room);
     }
-    let at = writing::put_syllables(buf, items, r.count);
+    let at = writing::put_syllables(buf, &items[..r.count]);
     writing::put_ending(buf, at, e);
     Ok(Counts {
         bytes,

@@ -5,7 +5,7 @@ ghost use Rattle.std.specs.Prelude.{◌≡◌, ◌+◌, ◌≤◌, ◌<◌, leng
 ghost use Rattle.exact.specs.Meaning.Outcome.{Decides};
 ghost use Rattle.reading.specs.Readings.{read};
 ghost use Rattle.reading.specs.Steps.{letter_at, Fits, tail_of};
-ghost use Rattle.reading.specs.Syllables.{syllable_of};
+ghost use Rattle.reading.specs.Syllables.{syllable_of, syllable_number};
 ghost use Rattle.reading.specs.Held.{Blank, Readable, Steps, Pushed, Popped, Placed, cancelled, by_kind, pair};
 ghost use Rattle.reading.specs.Texts.{whole_of, Few, ReadableText, AddsLetter};
 ghost use Rattle.reading.specs.Letters.{Reads, NumberAt};
@@ -22,7 +22,7 @@ pub const EMPTY: u8 = 0;
 
 const ONLY_T: u8 = 1;
 
-#[derive(Clone, Copy)]
+#[derive(Clone, Copy, PartialEq, Eq)]
 pub enum Syllable {
     I,
     T,
@@ -45,20 +45,26 @@ pub struct Text {
     pub bytes: usize,
 }
 
-impl Syllable {
-    pub fn of(code: u8) -> Syllable
-        ensures { result ≡ syllable_of code }
-    {
-        if code == 1 {
-            return Syllable::T;
+// No syllable where there is none of this code.
+impl From<u8> for Syllable {
+    ghost from_gives = { λ code s. s ≡ syllable_of code };
+
+    fn from(code: u8) -> Syllable {
+        match code {
+            1 => Syllable::T,
+            2 => Syllable::HT,
+            3 => Syllable::SHT,
+            _ => Syllable::I,
         }
-        if code == 2 {
-            return Syllable::HT;
-        }
-        if code == 3 {
-            return Syllable::SHT;
-        }
-        Syllable::I
+    }
+}
+
+// Its letters.
+impl From<Syllable> for usize {
+    ghost from_gives = { λ s n. n ≡ syllable_number s };
+
+    fn from(s: Syllable) -> usize {
+        s as usize
     }
 }
 
@@ -67,11 +73,9 @@ impl Reading {
         requires { Few self }
         ensures { result ≡ whole_of self }
     {
-        let tail = self.tail;
-        let size = tail.size(table);
         Text {
             reading: self,
-            bytes: self.bytes + size,
+            bytes: self.bytes + self.tail.size(table),
         }
     }
 }
@@ -86,7 +90,7 @@ fn push(items: &mut [u8], r: Reading, code: u8, more: usize, tail: Tail) -> Read
     Reading {
         count: count + more,
         bytes: r.bytes + code as usize,
-        tail: tail,
+        tail,
     }
 }
 
@@ -100,7 +104,7 @@ fn pop(items: &mut [u8], r: Reading, code: u8, tail: Tail) -> Reading
     Reading {
         count: count,
         bytes: r.bytes - code as usize,
-        tail: tail,
+        tail,
     }
 }
 

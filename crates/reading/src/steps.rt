@@ -65,10 +65,7 @@ impl Tail {
         let kind = table.bytes[KINDS + change as usize + self.code];
         let entry = table.bytes[(row % 32) as usize * 24 + self.code];
         let tail = self.moved(entry, row / 32);
-        Step {
-            kind: kind,
-            tail: tail,
-        }
+        Step { kind, tail }
     }
 
     // Behind the syllable of this code and one more T.
@@ -86,8 +83,7 @@ impl Tail {
         requires { Fits self }
         ensures { SizeIs (tail_of self) result }
     {
-        let split = self.split(table);
-        let rest = split.rest;
+        let rest = self.split(table).rest;
         let n = self.code / 8 + rest.b as usize + rest.c as usize + rest.d as usize;
         if n == 0 { 1 } else { n }
     }
@@ -98,18 +94,14 @@ impl Tail {
         ensures { result ≡ split_c (tail_of self) }
     {
         let entry = table.bytes[AXES + self.code];
-        let rest = self.moved(entry, 0);
-        let code = rest.code;
-        let axis = axis_at(self.code / 8);
-        let behind = Clifford {
+        let Tail { code, phase } = self.moved(entry, 0);
+        let rest = Clifford {
             a: (code / 8) as u8,
             b: (code / 4 % 2) as u8,
             c: (code % 4) as u8,
-            d: rest.phase as u8,
+            d: phase as u8,
         };
-        Coset {
-            axis: axis,
-            rest: behind,
-        }
+        let axis = axis_at(self.code / 8);
+        Coset { axis, rest }
     }
 }

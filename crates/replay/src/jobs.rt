@@ -1,6 +1,6 @@
 // A job on a payload, and its answer in text.
 use crate::slots;
-use clifford::{Axis, Clifford};
+use clifford::{Clifford, Four};
 use exact::Refusal;
 use normal_form::Counts;
 use qasm::Edition;
@@ -131,23 +131,12 @@ fn narrow(x: i64) -> i32 {
     i32::try_from(x).unwrap_or(0)
 }
 
-// Four numbers of a Clifford, as the record has them.
-#[derive(Clone, Copy)]
-struct Four {
-    a: i32,
-    b: i32,
-    c: i32,
-    d: i32,
-}
-
-impl Four {
-    fn of(x: ZOmega) -> Four {
-        Four {
-            a: narrow(x.a),
-            b: narrow(x.b),
-            c: narrow(x.c),
-            d: narrow(x.d),
-        }
+fn four_of(x: ZOmega) -> Four {
+    Four {
+        a: narrow(x.a),
+        b: narrow(x.b),
+        c: narrow(x.c),
+        d: narrow(x.d),
     }
 }
 
@@ -156,34 +145,17 @@ fn parts<W: Write>(out: &mut W, q: Clifford) -> io::Result<()> {
 }
 
 fn product<W: Write>(out: &mut W, t: Triple) -> io::Result<()> {
-    let x = Four::of(t.z);
-    let y = Four::of(t.w);
-    parts(
-        out,
-        clifford::clifford_product(x.a, x.b, x.c, x.d, y.a, y.b, y.c, y.d),
-    )
+    parts(out, clifford::clifford_product(four_of(t.z), four_of(t.w)))
 }
 
 fn inverse<W: Write>(out: &mut W, t: Triple) -> io::Result<()> {
-    let x = Four::of(t.z);
-    parts(out, clifford::clifford_inverse(x.a, x.b, x.c, x.d))
-}
-
-fn axis_number(axis: Axis) -> u64 {
-    match axis {
-        Axis::I => 0,
-        Axis::H => 1,
-        Axis::SH => 2,
-    }
+    parts(out, clifford::clifford_inverse(four_of(t.z)))
 }
 
 fn coset<W: Write>(out: &mut W, t: Triple) -> io::Result<()> {
-    let x = Four::of(t.z);
-    let split = clifford::clifford_split(x.a, x.b, x.c, x.d);
-    let axis = split.axis;
-    let rest = split.rest;
-    write!(out, "{} ", axis_number(axis))?;
-    parts(out, rest)
+    let split = clifford::clifford_split(four_of(t.z));
+    write!(out, "{} ", u8::from(split.axis))?;
+    parts(out, split.rest)
 }
 
 // The job of a bench record's triple.

@@ -73,7 +73,7 @@ impl ZOmega {
     };
 
     pub fn new(a: i64, b: i64, c: i64, d: i64) -> ZOmega
-        ensures { quad result ≡ record { a = a; b = b; c = c; d = d } }
+        ensures { result ≡ record { a = a; b = b; c = c; d = d } }
     {
         ZOmega { a, b, c, d }
     }

@@ -1,8 +1,8 @@
 -- A record that letters give, told from the record alone: its codes, the places behind them, its ranges and its bytes. Assumes nothing.
-use Rattle.std.specs.Prelude.{◌≡◌, refl, Bool, true, false, cond, ◌&&◌, List, [], ◌∷◌, ◌++◌, ℕ, zero, suc, ◌+◌, ◌*◌, ◌/◌, ◌%◌, ◌≤◌, ◌<◌, eqb, ltb, length, take, get_or}
-use Rattle.std.proofs.Common.{sym, ◌∙◌, ap, ap₂, subst, arith, eqb-true, ltb-true, ltb-false, Fits as FitsIn, length-take-le, take-suc, ext_get_or}
+use Rattle.std.specs.Prelude.{◌≡◌, refl, Bool, true, false, cond, ◌&&◌, List, [], ◌∷◌, ◌++◌, ℕ, zero, suc, ◌+◌, ◌*◌, ◌/◌, ◌%◌, ◌≤◌, ◌<◌, eqb, ltb}
+use Rattle.std.specs.Prelude.{length, take, get_or, Some, None}
+use Rattle.std.proofs.Common.{sym, ◌∙◌, ap, ap₂, subst, arith, eqb-true, ltb-true, ltb-false, length-take-le, take-suc, ext_get_or}
 use Rattle.std.proofs.lemmas.Bool.{eqb-false}
-use Rattle.std.specs.Int.{w64}
 use Rattle.std.proofs.Math.ListN.{get_or-eq_default}
 use Rattle.exact.specs.Meaning.Normal.{Syllable, HT, SHT, spell}
 use Rattle.exact.specs.Meaning.Outcome.{Decides}
@@ -20,7 +20,6 @@ use Rattle.reading.specs.Steps.{tail_of, Fits}
 use Rattle.reading.specs.Held as Held
 use Rattle.reading.specs.Held.{Holds, longer, count_is, bytes_few}
 use Rattle.reading.specs.Texts.{whole_of, Few, HoldsText, whole_holds}
-use Rattle.slot.specs.declared.told.Told.{Told}
 use Rattle.slot.specs.Meaning.{Slot, slot_of, code, codes_of, led, codes, Shows, Given}
 use Rattle.slot.proofs.Shown.{Coded, rest_of, state_size, state_shown, few_shown, shown_coded, shown_rest}
 use Rattle.slot.proofs.Letters.{given_shown, text_gives}
@@ -205,25 +204,6 @@ six_listed rest e =
     at (suc (suc (suc (suc (suc zero))))) l = refl
     at (suc (suc (suc (suc (suc (suc i)))))) l = absurd (omega (arith, e))
 
-module _ {rest : List ℕ} (h : Ranges rest) where
-  pub a_fits : FitsIn w64 (get_or rest 2 0 * 8)
-  a_fits = omega (arith, h.a_few)
-
-  pub b_fits : FitsIn w64 (get_or rest 3 0 * 4)
-  b_fits = omega (arith, h.b_few)
-
-  pub ab_fits : FitsIn w64 (get_or rest 2 0 * 8 + get_or rest 3 0 * 4)
-  ab_fits = omega (arith, h.a_few, h.b_few)
-
-  pub abc_fits : FitsIn w64 (get_or rest 2 0 * 8 + get_or rest 3 0 * 4 + get_or rest 4 0)
-  abc_fits = omega (arith, h.a_few, h.b_few, h.c_few)
-
-  pub count_room : (items : List ℕ) → length items ≡ 4096 → get_or rest 0 0 ≤ length items
-  count_room items e = omega (arith, h.count_few)
-
-pub all_room : (items : List ℕ) → length items ≡ 4096 → length items ≤ 4096
-all_room items e = omega arith
-
 pub tail_fits : {rest : List ℕ} → Ranges rest → Fits (tail_in rest)
 tail_fits h = record { code_few = omega (arith, h.a_few, h.b_few, h.c_few); phase_few = h.d_few }
 
@@ -255,12 +235,12 @@ pub ranges_by : {rest : List ℕ} {b : Bool} → Decides (Ranges rest) b → b �
 ranges_by d e = d.yes e
 
 module _ {items rest : List ℕ} where
-  pub wrong_ranges : {b : Bool} → Decides (Ranges rest) b → b ≡ false → Tells (slot_of items rest) Told.Wrong
+  pub wrong_ranges : {b : Bool} → Decides (Ranges rest) b → b ≡ false → Tells (slot_of items rest) None
   wrong_ranges d e g = d.no e (given_sound g).ranges
 
   module _ (places : length items ≡ longest) {f b : Bool} (front : Decides (Fronts items (get_or rest 0 0)) f)
       (behind : Decides (Behind items (get_or rest 0 0) (length items)) b) where
-    pub wrong_codes : {c : Bool} → c ≡ f && b → c ≡ false → Tells (slot_of items rest) Told.Wrong
+    pub wrong_codes : {c : Bool} → c ≡ f && b → c ≡ false → Tells (slot_of items rest) None
     wrong_codes e z g =
         (both_decide front (subst (λ (n : ℕ). Decides (Behind items (get_or rest 0 0) n) b) places behind) e (λ p q. (p, q)) (λ h. h)).no z
         ((given_sound g).fronts, (given_sound g).behind)
@@ -301,7 +281,7 @@ module _ {items rest : List ℕ} where
         holds_there : HoldsText items x standing_state
         holds_there = whole_holds stacks_there whole
 
-        pub stands : length rest ≡ 6 → x.bytes ≡ get_or rest 1 0 → Tells (slot_of items rest) (Told.Right x)
+        pub stands : length rest ≡ 6 → x.bytes ≡ get_or rest 1 0 → Tells (slot_of items rest) (Some x)
         stands six same =
             record { st = standing_state; ranged = ranged; shows = state_shown standing_state ranged items rest coded places numbered; holds = holds_there }
           where
@@ -317,7 +297,7 @@ module _ {items rest : List ℕ} where
                 ∙ ap₂ (λ (n m : ℕ). n ∷ m ∷ get_or rest 2 0 ∷ get_or rest 3 0 ∷ get_or rest 4 0 ∷ get_or rest 5 0 ∷ []) (count_is stacks_there)
                 (sym same ∙ holds_there.bytes_is)
 
-        pub wrong_bytes : (x.bytes ≡ get_or rest 1 0 → ⊥) → Tells (slot_of items rest) Told.Wrong
+        pub wrong_bytes : (x.bytes ≡ get_or rest 1 0 → ⊥) → Tells (slot_of items rest) None
         wrong_bytes n g =
             n
             (ap (λ (y : Text). y.bytes) whole

@@ -1,10 +1,12 @@
 -- The tests of a record, one by one: ranges, codes in front, nothing behind them. Assumes nothing.
-use Rattle.std.specs.Prelude.{◌≡◌, refl, Bool, true, false, ◌&&◌, List, [], ◌∷◌, ◌++◌, ℕ, zero, suc, ◌+◌, ◌*◌, ◌/◌, ◌≤◌, ◌<◌, eqb, ltb, length, take, get_or}
-use Rattle.std.proofs.Common.{sym, ◌∙◌, ap, subst, add-zero, add-one, arith, eqb-true, ltb-true, ltb-false, Fits as FitsIn, take-suc}
+use Rattle.std.specs.Prelude.{◌≡◌, refl, Bool, true, false, ◌&&◌, List, [], ◌∷◌, ◌++◌, ℕ, zero, suc, ◌+◌, ◌*◌, ◌/◌, ◌≤◌, ◌<◌, eqb, ltb, ◌-◌, length}
+use Rattle.std.specs.Prelude.{take, drop, get_or}
+use Rattle.std.proofs.Common.{sym, ◌∙◌, ap, subst, add-zero, add-one, arith, eqb-true, ltb-true, ltb-false, Fits as FitsIn, take-suc, length-take-le}
+use Rattle.std.proofs.Common.{length-drop, get_or-take, get_or-drop}
 use Rattle.std.proofs.lemmas.Bool.{false≢true, eqb-false}
 use Rattle.std.specs.Int.{w16}
 use Rattle.exact.specs.Meaning.Outcome.{Decides}
-use Rattle.slot.specs.Tests.{Ranges, Fronts, sum, Behind}
+use Rattle.slot.specs.Tests.{Fronts, sum, Behind}
 
 -- ---- deciding
 pub refuted : {P : Type 0} → (P → ⊥) → Decides P false
@@ -28,25 +30,9 @@ less_decides m n = record { yes = ltb-true m n; no = λ e h. omega (arith, ltb-f
 pub equal_decides : (m n : ℕ) → Decides (m ≡ n) (eqb m n)
 equal_decides m n = record { yes = eqb-true m n; no = eqb-false m n }
 
-module _ {rest : List ℕ} where
-  pub many : 4096 < get_or rest 0 0 → Decides (Ranges rest) false
-  many l = refuted (λ h. omega (arith, h.count_few))
-
-  pub a_out : 2 < get_or rest 2 0 → Decides (Ranges rest) false
-  a_out l = refuted (λ h. omega (arith, h.a_few))
-
-  pub b_out : 1 < get_or rest 3 0 → Decides (Ranges rest) false
-  b_out l = refuted (λ h. omega (arith, h.b_few))
-
-  pub c_out : 3 < get_or rest 4 0 → Decides (Ranges rest) false
-  c_out l = refuted (λ h. omega (arith, h.c_few))
-
-  pub d_tells : get_or rest 0 0 ≤ 4096 → get_or rest 2 0 ≤ 2 → get_or rest 3 0 ≤ 1 → get_or rest 4 0 ≤ 3 → Decides (Ranges rest) (ltb (get_or rest 5 0) 8)
-  d_tells k a b c =
-      record {
-        yes = λ e. record { count_few = k; a_few = omega arith; b_few = omega arith; c_few = omega arith; d_few = ltb-true (get_or rest 5 0) 8 e };
-        no = λ e h. omega (arith, ltb-false (get_or rest 5 0) 8 e, h.d_few);
-      }
+-- one that decides P decides what follows from it and gives it
+decides_along : {P Q : Type 0} {b : Bool} → (P → Q) → (Q → P) → Decides P b → Decides Q b
+decides_along to from d = record { yes = λ e. to (d.yes e); no = λ e q. d.no e (from q) }
 
 pub sum_append : (cs ds : List ℕ) → sum (cs ++ ds) ≡ sum cs + sum ds
 sum_append [] ds = omega arith
@@ -116,9 +102,6 @@ pub sum_none : {items : List ℕ} → Summing items 0 0
 sum_none = record { sum_is = refl; few = omega arith }
 
 module _ {items : List ℕ} {count letters i : ℕ} (f : Fronts items count) (h : Summing items letters i) (l : i < count) where
-  pub code_fits : FitsIn w16 (get_or items i 0)
-  code_fits = omega (arith, code_most f i l)
-
   module _ (c : count ≤ length items) where
     pub sum_fits : length items ≤ 4096 → FitsIn w16 (letters + get_or items i 0)
     sum_fits m = omega (arith, code_most f i l, h.few)
@@ -165,3 +148,48 @@ module _ {items : List ℕ} {n i : ℕ} {b : Bool} (h : Emptying items n b i) wh
   behind_end l =
       let e : i ≡ length items = omega (arith, h.high) in
       subst (λ (m : ℕ). Decides (Behind items n m) b) e h.told
+
+-- ---- codes and places that are cut apart
+module _ (items : List ℕ) (n : ℕ) (l : n ≤ length items) {codes places : List ℕ} (p : codes ≡ take n items) (q : places ≡ drop n items) where
+  few : length codes ≡ n
+  few = ap length p ∙ length-take-le n items l
+
+  same_front : (i : ℕ) → i < n → get_or codes i 0 ≡ get_or items i 0
+  same_front i k = ap (λ (xs : List ℕ). get_or xs i 0) p ∙ get_or-take n items i 0 k
+
+  pub front_in : {b : Bool} → Decides (Fronts codes (length codes)) b → Decides (Fronts items n) b
+  front_in d = decides_along to from d
+    where
+      to : Fronts codes (length codes) → Fronts items n
+      to h =
+          record {
+            first = λ k. rw (sym (same_front 0 k)) (h.first (omega (arith, few)));
+            inner = λ i j k. ap (λ (c : ℕ). c / 2) (sym (same_front i k)) ∙ h.inner i j (omega (arith, few));
+          }
+
+      from : Fronts items n → Fronts codes (length codes)
+      from h =
+          record {
+            first = λ k. let z : 0 < n = omega (arith, few) in rw (same_front 0 z) (h.first z);
+            inner = λ i j k. let z : i < n = omega (arith, few) in ap (λ (c : ℕ). c / 2) (same_front i z) ∙ h.inner i j z;
+          }
+
+  pub behind_in : {b : Bool} → Decides (Behind places 0 (length places)) b → Decides (Behind items n (length items)) b
+  behind_in d = decides_along to from d
+    where
+      at : (i : ℕ) → get_or places i 0 ≡ get_or items (n + i) 0
+      at i = ap (λ (xs : List ℕ). get_or xs i 0) q ∙ get_or-drop n items i 0
+
+      long : length places + n ≡ length items
+      long = omega (arith, ap length q, length-drop n items)
+
+      to : Behind places 0 (length places) → Behind items n (length items)
+      to h =
+          record {
+            empty = λ i j k.
+                let same : n + (i - n) ≡ i = omega arith in
+                ap (λ (m : ℕ). get_or items m 0) (sym same) ∙ sym (at (i - n)) ∙ h.empty (i - n) (omega arith) (omega (arith, long));
+          }
+
+      from : Behind items n (length items) → Behind places 0 (length places)
+      from h = record { empty = λ i j k. at i ∙ h.empty (n + i) (omega arith) (omega (arith, long)) }

@@ -15,8 +15,7 @@ use Rattle.clifford.specs.Meaning.{Ranged}
 use Rattle.reading.specs.Readings.{State, start, run, run_append, run_ranged, start_ranged, shape, shape_of, normal, normal_of, read, read_size, size_of}
 use Rattle.normal_form.specs.Meaning.{Written, Normalises, NormaliseOutcome}
 use Rattle.normal_form.specs.Again.{answer_of_lem, counted, bytes_written}
-use Rattle.slot.specs.declared.Answer.{Answer}
-use Rattle.slot.specs.Meaning.{Slot, Shows, codes, GivenBy, Given, slot, refused, Measured, LengthOutcome, Left, left, Extended, Overfull}
+use Rattle.slot.specs.Meaning.{Answer, Slot, Shows, codes, GivenBy, Given, slot, refused, Measured, LengthOutcome, Left, left, Extended, Overfull}
 use Rattle.slot.specs.Meaning.{add_refusals, AddOutcome}
 use Rattle.slot.proofs.Shown.{one_shape, state_size, shown_rest, few_shown}
 use Rattle.slot.proofs.Letters.{given_shown, given_more, shown_adds, over_form}

@@ -1,6 +1,8 @@
 -- Slots: two allowed outcomes are equal. Assumes nothing.
-use Rattle.std.specs.Prelude.{◌≡◌, List, [], ◌∷◌, ◌++◌, ℕ}
+use Rattle.std.specs.Prelude.{◌≡◌, List, [], ◌∷◌, ◌++◌, ℕ, Result, Ok, Err, IfErr}
 use Rattle.std.proofs.Common.{sym, ◌∙◌, ap, ap₂, subst}
+use Rattle.exact.specs.declared.Refusal as Handed
+use Rattle.exact.specs.Meaning.Handed.{place}
 use Rattle.exact.specs.Meaning.Matrix.{Same}
 use Rattle.exact.specs.Meaning.Word.{Letter, word}
 use Rattle.exact.specs.Meaning.Normal.{Shape, spell, NormalOf}
@@ -8,12 +10,14 @@ use Rattle.exact.specs.Meaning.Outcome.{none, ◌then◌}
 use Rattle.exact.proofs.Cases.Letters.{byte_inj}
 use Rattle.exact.proofs.Matrices.Same.{Same-sym, Same-trans}
 use Rattle.exact.proofs.Unique.Normal.{shape_unique}
+use Rattle.exact.proofs.Outcomes.Handed.{number_some, one_refusal}
 use Rattle.exact.proofs.Outcomes.Ladder.{Only, one_outcome}
 use Rattle.exact.proofs.Outcomes.Places.{one_plain, one_normal}
 use Rattle.clifford.specs.Words.{◌≈◌}
 use Rattle.clifford.proofs.Words.{before}
 use Rattle.reading.specs.Readings.{start, run, run_ranged, start_ranged, shape, normal_of, fits}
-use Rattle.slot.specs.Meaning.{Slot, Shows, GivenBy, slot, refused, long, Measured, LengthOutcome, left, Extended, add_refusals, AddOutcome}
+use Rattle.slot.specs.Meaning.{Answer, answer_of, Left, Slot, Shows, GivenBy, slot, refused, long, Measured, LengthOutcome, left, Extended}
+use Rattle.slot.specs.Meaning.{add_refusals, AddOutcome}
 use Rattle.slot.proofs.Shown.{one_slot, one_shape}
 use Rattle.slot.proofs.Letters.{given_shown}
 
@@ -66,3 +70,18 @@ length_unique r = one_outcome (λ n p. refused n) (Measured r) (slot r then none
 pub add_unique : (b : ℕ) (r : Slot) → Only (AddOutcome b r)
 add_unique b r =
     one_outcome (λ n p. left (refused n) r) (Extended b r) (add_refusals b r) (one_plain, (one_plain, (one_plain, tt))) (λ h. one_extended b r)
+
+-- ---- and so are the results: what is handed back tells a result whose refusal names no place
+result_once : (x y : Result ℕ Handed.Refusal) → IfErr x (λ e. place e ≡ 0) → IfErr y (λ e. place e ≡ 0) → answer_of x ≡ answer_of y → x ≡ y
+result_once (Ok m) (Ok n) p q h = ap (λ (a : Answer). Ok a.length) h
+result_once (Ok m) (Err f) p q h = absurd (number_some f (sym (ap (λ (a : Answer). a.refusal) h)))
+result_once (Err e) (Ok n) p q h = absurd (number_some e (ap (λ (a : Answer). a.refusal) h))
+result_once (Err e) (Err f) p q h = ap Err (one_refusal e f (ap (λ (a : Answer). a.refusal) h) (p ∙ sym q))
+
+module _ (x y : Result ℕ Handed.Refusal) (p : IfErr x (λ e. place e ≡ 0)) (q : IfErr y (λ e. place e ≡ 0)) (r : Slot) where
+  pub length_result : LengthOutcome r (answer_of x) → LengthOutcome r (answer_of y) → x ≡ y
+  length_result o o' = result_once x y p q (length_unique r (answer_of x) (answer_of y) o o')
+
+  pub add_result : (b : ℕ) (s s' : Slot) → AddOutcome b r (left (answer_of x) s) → AddOutcome b r (left (answer_of y) s') → x ≡ y
+  add_result b s s' o o' =
+      result_once x y p q (ap (λ (l : Left). l.answer) (add_unique b r (left (answer_of x) s) (left (answer_of y) s') o o'))

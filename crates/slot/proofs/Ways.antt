@@ -1,6 +1,7 @@
 -- The ways out of the two calls: a lemma for each, over plain values. Assumes nothing.
 use Rattle.std.specs.Prelude.{◌≡◌, refl, List, [], ◌∷◌, ℕ, ◌≤◌, ◌<◌, length, Option, Some, None, Result, Ok, Err}
 use Rattle.std.proofs.Common.{sym, ◌∙◌, ap, ap₂, subst, arith}
+use Rattle.std.specs.Option.{ok_or}
 use Rattle.exact.specs.Meaning.Word.{Letter, byte, IsLetter}
 use Rattle.exact.specs.Meaning.Normal.{Shape, spell, Normal}
 use Rattle.exact.specs.Meaning.Limits as Limits
@@ -19,9 +20,7 @@ use Rattle.reading.specs.Held as Held
 use Rattle.reading.specs.Held.{count_is}
 use Rattle.reading.specs.Letters.{NumberOf, letter_number_of, no_letter, numbered_in, numbered_at}
 use Rattle.reading.specs.Texts.{HoldsText, ReadableText, AddsLetter}
-use Rattle.slot.specs.declared.Answer.{Answer}
-use Rattle.slot.specs.declared.told.Told.{Told}
-use Rattle.slot.specs.Meaning.{Slot, slot_of, codes, Shows, Overfull, full, refused, LengthOutcome, Left, left, Extended, AddOutcome}
+use Rattle.slot.specs.Meaning.{Answer, Slot, slot_of, codes, Shows, Overfull, full, refused, LengthOutcome, Left, left, Extended, AddOutcome}
 use Rattle.slot.proofs.Shown.{rest_of, state_size, state_shown}
 use Rattle.slot.proofs.Letters.{read_next, over_form, shown_adds, given_more, text_gives}
 use Rattle.slot.specs.Standing.{Standing, Tells}
@@ -41,11 +40,16 @@ number_few l = omega arith
 pub letter_few : (b : ℕ) {n : ℕ} {o : Option ℕ} → o ≡ numbered b → o ≡ Some n → n ≤ 5
 letter_few b e l = (letter_number_of b (sym e ∙ l)).few
 
+-- what `ok_or` makes an error was none
+pub or_else : {A E : Type 0} (o : Option A) (e x : E) → Err x ≡ ok_or o e → (o ≡ None) × (x ≡ e)
+or_else None e x h = (refl, cc)
+or_else (Some a) e x h = absurd (cc)
+
 -- ---- the length
-pub length_wrong : {r : Slot} {t : Told} {a : Answer} → Tells r t → t ≡ Told.Wrong → a ≡ refused Limits.slot_refusal → LengthOutcome r a
+pub length_wrong : {r : Slot} {t : Option Text} {a : Answer} → Tells r t → t ≡ None → a ≡ refused Limits.slot_refusal → LengthOutcome r a
 length_wrong {r} n w e = Rung.given 0 (subst (Tells r) w n, refl) e
 
-pub length_told : {r : Slot} {t : Told} {x : Text} → Tells r t → t ≡ Told.Right x
+pub length_told : {r : Slot} {t : Option Text} {x : Text} → Tells r t → t ≡ Some x
     → LengthOutcome r (record { refusal = no_refusal; length = x.bytes })
 length_told {r} {t} {x} n w =
     let h : Standing r x = subst (Tells r) w n in
@@ -133,14 +137,14 @@ module _ (n : ℕ) {items rest : List ℕ} {x : Text} (h : Standing (slot_of ite
         })
 
 -- ---- a letter more
-pub told_right : {r : Slot} {t : Told} {x : Text} → Tells r t → t ≡ Told.Right x → Standing r x
+pub told_right : {r : Slot} {t : Option Text} {x : Text} → Tells r t → t ≡ Some x → Standing r x
 told_right {r} n w = subst (Tells r) w n
 
 module _ (b : ℕ) {r : Slot} where
-  pub add_wrong : {t : Told} {a : Answer} → Tells r t → t ≡ Told.Wrong → a ≡ refused Limits.slot_refusal → AddOutcome b r (left a r)
+  pub add_wrong : {t : Option Text} {a : Answer} → Tells r t → t ≡ None → a ≡ refused Limits.slot_refusal → AddOutcome b r (left a r)
   add_wrong n w e = Rung.given 0 (subst (Tells r) w n, refl) (ap (λ (y : Answer). left y r) e)
 
-  module _ {t : Told} {x : Text} (k : Tells r t) (w : t ≡ Told.Right x) {o : Option ℕ} (e : o ≡ numbered b) where
+  module _ {t : Option Text} {x : Text} (k : Tells r t) (w : t ≡ Some x) {o : Option ℕ} (e : o ≡ numbered b) where
     pub add_outside : {a : Answer} → o ≡ None → a ≡ refused Limits.letter_refusal → AddOutcome b r (left a r)
     add_outside l f =
         Rung.passed (λ p g. g.0 (standing_given (told_right k w)))

@@ -1,14 +1,15 @@
 -- Slots (docs/SCOPE.md, Slots): the record of a normal word's syllables, tail and bytes; which records letters give, added one after another to
 -- the empty one; and what the two calls promise.
-use Rattle.std.specs.Prelude.{◌≡◌, Bool, true, false, List, [], ◌∷◌, ◌++◌, ℕ, ◌<◌, ◌≤◌, length, get_or}
+use Rattle.std.specs.Prelude.{◌≡◌, Bool, true, false, List, [], ◌∷◌, ◌++◌, ℕ, ◌<◌, ◌≤◌, length, get_or, Result}
 use Rattle.exact.specs.Meaning.Matrix.{Same}
 use Rattle.exact.specs.Meaning.Word.{Letter, word, byte, IsLetter}
 use Rattle.exact.specs.Meaning.Normal.{Syllable, HT, SHT, Shape, Fits, tail_word, spell, NormalOf}
 use Rattle.exact.specs.Meaning.Clifford.{Clifford, Within, clifford}
+use Rattle.exact.specs.declared.Refusal as Handed
+use Rattle.exact.specs.Meaning.Handed.{handed}
 use Rattle.exact.specs.Meaning.Limits as Limits
 use Rattle.exact.specs.Meaning.Limits.{no_refusal, longest}
 use Rattle.exact.specs.Meaning.Outcome.{Refusal, Refusals, none, ◌then◌, plain, Outcome}
-use Rattle.slot.specs.declared.Answer.{Answer}
 
 -- ---- the record as it is lent: 4,096 codes; and how many syllables, the bytes of the text, the tail's Clifford a, b, c, d
 pub record Slot : Type 0 where
@@ -102,6 +103,14 @@ pub record Overfull (b : ℕ) (r : Slot) : Type 0 where
 
 abbrev pub full : ℕ → Slot → Refusal
 full b r = plain Limits.full_refusal (Overfull b r)
+
+-- ---- what is handed back: a length, or a refusal, which names no place
+pub record Answer : Type 0 where
+  pub refusal : ℕ
+  pub length : ℕ
+
+abbrev pub answer_of : Result ℕ Handed.Refusal → Answer
+answer_of = handed (λ n p. record { refusal = n; length = 0 }) (λ n. record { refusal = no_refusal; length = n })
 
 -- ---- the length: that of the normal word of the letters that give the record
 abbrev pub refused : ℕ → Answer

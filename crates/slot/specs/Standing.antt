@@ -1,5 +1,5 @@
 -- A record that letters give, told from the record alone: its codes, the places behind them, its ranges and its bytes. Assumes nothing.
-use Rattle.std.specs.Prelude.{◌≡◌, List, ℕ, ◌+◌, ◌*◌, get_or}
+use Rattle.std.specs.Prelude.{◌≡◌, List, ℕ, ◌+◌, ◌*◌, get_or, Option, Some, None}
 use Rattle.exact.specs.Meaning.Normal.{Syllable}
 use Rattle.clifford.specs.Meaning.{Ranged}
 use Rattle.reading.specs.declared.Text.{Text}
@@ -8,7 +8,6 @@ use Rattle.reading.specs.declared.steps.Tail.{Tail}
 use Rattle.reading.specs.Readings.{State, shape_of}
 use Rattle.reading.specs.Syllables.{syllable_number, named}
 use Rattle.reading.specs.Texts.{HoldsText}
-use Rattle.slot.specs.declared.told.Told.{Told}
 use Rattle.slot.specs.Meaning.{Slot, Shows, Given}
 
 -- ---- from codes to syllables
@@ -23,9 +22,9 @@ pub record Standing (r : Slot) (x : Text) : Type 0 where
   pub shows : Shows (shape_of st) r
   pub holds : HoldsText r.syllables x st
 
-abbrev pub Tells : Slot → Told → Type 0
-Tells r Told.Wrong = Given r → ⊥
-Tells r (Told.Right x) = Standing r x
+abbrev pub Tells : Slot → Option Text → Type 0
+Tells r None = Given r → ⊥
+Tells r (Some x) = Standing r x
 
 -- what the program makes of a record, its letters being counted
 abbrev pub tail_in : List ℕ → Tail

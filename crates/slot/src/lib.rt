@@ -2,32 +2,17 @@
 // told that letters give it.
 #![tactic(auto)]
 
-ghost use Rattle.std.specs.Prelude.{◌≡◌, ◌≤◌, length};
-ghost use Rattle.slot.specs.Meaning.{slot_of, refused, left, LengthOutcome, AddOutcome};
+ghost use Rattle.std.specs.Prelude.{◌≡◌, ◌≤◌, IfErr};
+ghost use Rattle.exact.specs.Meaning.Handed.{place};
+ghost use Rattle.slot.specs.Meaning.{slot_of, answer_of, left, LengthOutcome, AddOutcome};
 ghost use Rattle.slot.specs.Standing.{Standing};
 ghost use Rattle.slot.specs.Ways.{MoreOutcome, six};
 
+use exact::Refusal;
 use reading::Text;
 use reading::table::Table;
-use told::Told;
 
 mod told;
-
-// The refusal or 0, and the bytes of the text.
-#[derive(Clone, Copy)]
-pub struct Answer {
-    pub refusal: u8,
-    pub length: u64,
-}
-
-fn refused(number: u8) -> Answer
-    ensures { result ≡ refused number }
-{
-    Answer {
-        refusal: number,
-        length: 0,
-    }
-}
 
 // A reading's numbers as they are lent.
 fn put_rest(r: Text, rest: &mut [u64; 6])
@@ -47,50 +32,40 @@ fn put_rest(r: Text, rest: &mut [u64; 6])
 }
 
 // A letter, by its number, more in a right record.
-fn add_right(table: Table, number: u8, r: Text, syllables: &mut [u8], rest: &mut [u64; 6]) -> Answer
-    requires fact_2 { number ≤ 5 }
-    requires fact_3 { length syllables.old ≡ 4096 }
-    requires fact_4 { Standing (slot_of syllables.old rest.old) r }
-    ensures { MoreOutcome number (slot_of syllables.old rest.old) (left result (slot_of syllables.new rest.new)) }
+fn add_right(
+    table: Table,
+    number: u8,
+    r: Text,
+    syllables: &mut [u8; 4096],
+    rest: &mut [u64; 6],
+) -> Result<u64, Refusal>
+    requires number_few { number ≤ 5 }
+    requires standing { Standing (slot_of syllables.old rest.old) r }
+    ensures outcome { MoreOutcome number (slot_of syllables.old rest.old) (left (answer_of result) (slot_of syllables.new rest.new)) }
+    ensures placeless { IfErr result (λ e. place e ≡ 0) }
 {
-    match reading::append_gate(table, syllables, r, number) {
-        Err(e) => refused(e.number()),
-        Ok(next) => {
-            put_rest(next, rest);
-            Answer {
-                refusal: exact::ACCEPTED,
-                length: next.bytes as u64,
-            }
-        }
-    }
+    let next = reading::append_gate(table, syllables, r, number)?;
+    put_rest(next, rest);
+    Ok(next.bytes as u64)
 }
 
-// The record with a letter more, and its length.
-pub fn add(letter: u8, syllables: &mut [u8; 4096], rest: &mut [u64; 6]) -> Answer
-    ensures { AddOutcome letter (slot_of syllables.old rest.old) (left result (slot_of syllables.new rest.new)) }
+// The record with a letter more, and its length; the record stays as it was where the letter is refused. Two arrays and no struct: C lends both.
+pub fn add(letter: u8, syllables: &mut [u8; 4096], rest: &mut [u64; 6]) -> Result<u64, Refusal>
+    ensures outcome { AddOutcome letter (slot_of syllables.old rest.old) (left (answer_of result) (slot_of syllables.new rest.new)) }
+    ensures placeless { IfErr result (λ e. place e ≡ 0) }
 {
     let table = normal_form::reader_table();
-    match told::check(table, syllables, rest) {
-        Told::Wrong => refused(exact::SLOT),
-        Told::Right(r) => {
-            let Some(number) = table.number(letter) else {
-                return refused(exact::LETTER);
-            };
-            add_right(table, number, r, syllables, rest)
-        }
-    }
+    let r = told::check(table, syllables, rest).ok_or(Refusal::Slot)?;
+    let number = table.number(letter).ok_or(Refusal::Letter(0))?;
+    add_right(table, number, r, syllables, rest)
 }
 
 // The length of a record's text.
-pub fn length(syllables: &[u8; 4096], rest: &[u64; 6]) -> Answer
-    ensures { LengthOutcome (slot_of syllables.now rest.now) result }
+pub fn length(syllables: &[u8; 4096], rest: &[u64; 6]) -> Result<u64, Refusal>
+    ensures outcome { LengthOutcome (slot_of syllables.now rest.now) (answer_of result) }
+    ensures placeless { IfErr result (λ e. place e ≡ 0) }
 {
     let table = normal_form::reader_table();
-    match told::check(table, syllables, rest) {
-        Told::Wrong => refused(exact::SLOT),
-        Told::Right(r) => Answer {
-            refusal: exact::ACCEPTED,
-            length: r.bytes as u64,
-        },
-    }
+    let r = told::check(table, syllables, rest).ok_or(Refusal::Slot)?;
+    Ok(r.bytes as u64)
 }

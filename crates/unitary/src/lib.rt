@@ -25,6 +25,8 @@ ghost use Rattle.unitary.specs.Reducing.{Twos, OnceMore};
 use exact::Refusal;
 use ring::{Triple, ZOmega};
 
+// No sizes stand in the type: H leaves coefficients that need not be small, a triple is handed in with any n, and the numbers of a refusal (`none`) are
+// no matrix.
 #[derive(Clone, Copy)]
 pub struct DOmegaUnitary {
     pub z: ZOmega,
@@ -78,16 +80,6 @@ pub fn check(t: Triple) -> Result<(), Refusal>
         return Err(Refusal::Unitary);
     }
     Ok(())
-}
-
-// The refusal by its number, or 0.
-pub fn check_number(k: i64, z: ZOmega, w: ZOmega) -> u8
-    ensures { CheckOutcome k z w result }
-{
-    match check(Triple { k, n: 0, z, w }) {
-        Ok(()) => exact::ACCEPTED,
-        Err(refusal) => refusal.number(),
-    }
 }
 
 // ---- triples
@@ -244,7 +236,7 @@ impl DOmegaUnitary {
             z: self.w,
             w: self.z,
             n: (self.n + 4) % 8,
-            k: self.k,
+            ..self
         }
     }
 
@@ -258,7 +250,7 @@ impl DOmegaUnitary {
             z: self.z.mul_by_omega(),
             w: self.w.mul_by_omega(),
             n: (self.n + 2) % 8,
-            k: self.k,
+            ..self
         }
     }
 

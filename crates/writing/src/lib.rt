@@ -1,17 +1,17 @@
 // The letters of a normal word, put into a lent buffer: those of its syllables, and those of its tail.
 #![tactic(auto)]
 
-ghost use Rattle.std.specs.Prelude.{◌≡◌, cond, [], ◌∷◌, ◌+◌, ◌≤◌, ◌<◌, eqb, length, replicate, take};
+ghost use Rattle.std.specs.Prelude.{◌≡◌, cond, [], ◌∷◌, ◌+◌, ◌≤◌, ◌<◌, eqb, length, replicate};
 ghost use Rattle.exact.specs.Meaning.Word.{bytes};
 ghost use Rattle.reading.specs.Steps.{Fits, tail_of};
-ghost use Rattle.reading.specs.Syllables.{syllable_number, syllable_word};
+ghost use Rattle.reading.specs.Syllables.{syllable_word};
 ghost use Rattle.writing.specs.Spelt.{first_of, second_of};
 ghost use Rattle.writing.specs.Put.{Put};
 ghost use Rattle.writing.specs.Endings.{esses_of, aitches_of, end_word, end_size, Sized, letter_in, Ended};
 ghost use Rattle.writing.specs.Runs.{past_of, run_letter};
 ghost use Rattle.writing.specs.Codes.{codes_word};
 
-use clifford::Axis;
+use clifford::{Axis, Coset};
 use reading::Syllable;
 use reading::steps::Tail;
 use reading::table::Table;
@@ -25,12 +25,6 @@ pub struct Ending {
     pub x: usize,
     pub s: usize,
     pub w: usize,
-}
-
-fn wide(x: u8) -> usize
-    ensures { result ≡ x }
-{
-    x as usize
 }
 
 fn esses(axis: Axis) -> usize
@@ -70,22 +64,20 @@ pub fn ending_of(table: Table, t: Tail, phase: bool) -> Ending
     requires { Fits t }
     ensures { Ended phase (tail_of t) result }
 {
-    let split = t.split(table);
-    let axis = split.axis;
-    let rest = split.rest;
+    let Coset { axis, rest } = t.split(table);
     let first = esses(axis);
     let h = aitches(axis);
-    let x = wide(rest.b);
-    let s = wide(rest.c);
-    let w = wide(rest.d);
+    let x = usize::from(rest.b);
+    let s = usize::from(rest.c);
+    let w = usize::from(rest.d);
     let last = kept(phase, w);
     let i = one_if_none(first + h + x + s + last);
     Ending {
-        first: first,
-        h: h,
-        i: i,
-        x: x,
-        s: s,
+        first,
+        h,
+        i,
+        x,
+        s,
         w: last,
     }
 }
@@ -145,23 +137,8 @@ pub fn put_times(buf: &mut [u8], at: usize, letter: u8, n: usize) -> usize
     requires { at + n ≤ length buf.old }
     ensures { Put buf.old at (replicate n letter) buf.new result }
 {
-    let mut j: usize = 0;
-    while j < n {
-        buf[at + j] = letter;
-        j += 1;
-    }
+    buf[at..at + n].fill(letter);
     at + n
-}
-
-fn letters_in(s: Syllable) -> usize
-    ensures { result ≡ syllable_number s }
-{
-    match s {
-        Syllable::I => 0,
-        Syllable::T => 1,
-        Syllable::HT => 2,
-        Syllable::SHT => 3,
-    }
 }
 
 // Its first letter, by their number: H is 12 below T, and S is 11 above H.
@@ -186,7 +163,7 @@ fn put_syllable(buf: &mut [u8], at: usize, s: Syllable) -> usize
     requires { at + length (syllable_word s) ≤ length buf.old }
     ensures { Put buf.old at (bytes (syllable_word s)) buf.new result }
 {
-    let n = letters_in(s);
+    let n = usize::from(s);
     if n == 0 {
         return at;
     }
@@ -196,16 +173,14 @@ fn put_syllable(buf: &mut [u8], at: usize, s: Syllable) -> usize
     at + n
 }
 
-pub fn put_syllables(buf: &mut [u8], items: &[u8], count: usize) -> usize
-    requires { (count ≤ length items.now) × (length (codes_word (take count items.now)) ≤ length buf.old) }
-    ensures { Put buf.old 0 (bytes (codes_word (take count items.now))) buf.new result }
+// The syllables of these codes, from the buffer's beginning on.
+pub fn put_syllables(buf: &mut [u8], codes: &[u8]) -> usize
+    requires { length (codes_word codes.now) ≤ length buf.old }
+    ensures { Put buf.old 0 (bytes (codes_word codes.now)) buf.new result }
 {
-    let mut at: usize = 0;
-    let mut k: usize = 0;
-    while k < count {
-        let s = Syllable::of(items[k]);
-        at = put_syllable(buf, at, s);
-        k += 1;
+    let mut at = 0;
+    for code in codes {
+        at = put_syllable(buf, at, Syllable::from(*code));
     }
     at
 }
@@ -215,10 +190,8 @@ pub fn put_ending(buf: &mut [u8], at: usize, e: Ending) -> usize
     ensures { Put buf.old at (bytes (end_word e)) buf.new result }
 {
     let n = e.size();
-    let mut j: usize = 0;
-    while j < n {
+    for j in 0..n {
         buf[at + j] = e.letter(j);
-        j += 1;
     }
     at + n
 }

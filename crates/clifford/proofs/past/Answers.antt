@@ -3,8 +3,8 @@ use borrow.Author.Rules.{rules}
 use Rattle.clifford.proofs.Moves.{move_few, past_by}
 use Rattle.clifford.proofs.past.Goals as goal
 
-pub bounds-i-i : goal.bounds-i-i
-bounds-i-i c = search (rules, move_few)
+pub bounds-move_at-move_at : goal.bounds-move_at-move_at
+bounds-move_at-move_at c = search (rules, move_few)
 
 pub returns : goal.returns
 returns c = search (rules, past_by)

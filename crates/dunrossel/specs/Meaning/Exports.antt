@@ -9,8 +9,7 @@ use Rattle.clifford.specs.Meaning.{reduced, Product, Inverse, Split}
 use Rattle.clifford.specs.declared.Clifford.{Clifford}
 use Rattle.synthesis_of_clifford_t.specs.Meaning.{Synthesis, SynthesiseOutcome}
 use Rattle.qasm.specs.declared.Written.{Written as Converted}
-use Rattle.slot.specs.declared.Answer.{Answer as Measured}
-use Rattle.slot.specs.Meaning.{slot_of, Left, LengthOutcome, AddOutcome}
+use Rattle.slot.specs.Meaning.{slot_of, Answer as Measured, Left, LengthOutcome, AddOutcome}
 use Rattle.view.specs.Meaning.Outcome.{Answer, ViewOutcome}
 use Rattle.rotation.specs.Meaning.{Answer as Rotated, Count, RotationOutcome, CountOutcome}
 use Rattle.handed.specs.Meaning.{z_of, w_of, ten, eight_of, nineteen_of, counts, counts_in, four_of, five_of}

@@ -1,4 +1,5 @@
 -- `normal_form::write` meets its contract. Assumes nothing.
+use Rattle.std.proofs.Common.{sym, length-take-le}
 use Rattle.normal_form.specs.Answers.{size_fits, no_room_for, syllables_room, ending_room, written_for}
 use Rattle.reading.specs.Held.{count_within}
 use Rattle.normal_form.proofs.write.Goals as goal
@@ -9,8 +10,11 @@ overflow_add-bytes c = search size_fits
 pub returns-then-bytes-buf : goal.returns-then-bytes-buf
 returns-then-bytes-buf c = search no_room_for
 
+pub slice_bounds-put_syllables-end : goal.slice_bounds-put_syllables-end
+slice_bounds-put_syllables-end c = sym (length-take-le c.args.r.count c.args.items.now (count_within c.requires.readable.holds))
+
 pub put_syllables-at-requires : goal.put_syllables-at-requires
-put_syllables-at-requires c = search (count_within, syllables_room)
+put_syllables-at-requires c = search syllables_room
 
 pub put_ending-requires : goal.put_ending-requires
 put_ending-requires c = search ending_room

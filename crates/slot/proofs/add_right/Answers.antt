@@ -1,12 +1,13 @@
 -- `slot::add_right` meets its contract. Assumes nothing.
-use Rattle.slot.proofs.Ways.{standing_readable, number_few, no_place, one_added}
+use Rattle.std.proofs.Common.{refl}
+use Rattle.std.proofs.lemmas.Result.{err_from_is_err_and}
+use Rattle.slot.proofs.Ways.{no_place, one_added}
 use Rattle.slot.proofs.add_right.Goals as goal
 
-pub append_gate-requires : goal.append_gate-requires
-append_gate-requires c = search (standing_readable, number_few)
+pub returns-in_err-next-clause-outcome : goal.returns-in_err-next-clause-outcome
+returns-in_err-next-clause-outcome c =
+    let p = err_from_is_err_and c.from_residual.result c.from_residual.ensures.1 in
+    rw (p.1, p.2) (no_place c.args.number c.requires.standing c.told-syllables c.append_gate.ensures c.in_err-next.was refl refl)
 
-pub returns-in-Err : goal.returns-in-Err
-returns-in-Err c = search no_place
-
-pub returns-in-Ok : goal.returns-in-Ok
-returns-in-Ok c = search one_added
+pub returns-clause-outcome : goal.returns-clause-outcome
+returns-clause-outcome c = search (one_added, c.in_ok-next.was)

@@ -6,18 +6,18 @@ use Rattle.reading.specs.Steps.{fits_ranged}
 use Rattle.writing.proofs.ending_of.Goals as goal
 
 pub overflow_add-first : goal.overflow_add-first
-overflow_add-first c = let parts : Few c.split-split.result = search (split_few, fits_ranged) in omega (arith, parts)
+overflow_add-first c = let parts : Few c.split-axis.result = search (split_few, fits_ranged) in omega (arith, parts)
 
 pub overflow_add-first-2 : goal.overflow_add-first-2
-overflow_add-first-2 c = let parts : Few c.split-split.result = search (split_few, fits_ranged) in omega (arith, parts)
+overflow_add-first-2 c = let parts : Few c.split-axis.result = search (split_few, fits_ranged) in omega (arith, parts)
 
 pub overflow_add-first-3 : goal.overflow_add-first-3
-overflow_add-first-3 c = let parts : Few c.split-split.result = search (split_few, fits_ranged) in omega (arith, parts)
+overflow_add-first-3 c = let parts : Few c.split-axis.result = search (split_few, fits_ranged) in omega (arith, parts)
 
 pub overflow_add-first-4 : goal.overflow_add-first-4
 overflow_add-first-4 c =
     let last : c.kept-last.result ≤ 7 = search (kept_few, split_few, fits_ranged) in
-    let parts : Few c.split-split.result = search (split_few, fits_ranged) in
+    let parts : Few c.split-axis.result = search (split_few, fits_ranged) in
     omega (arith, last, parts)
 
 pub returns : goal.returns

@@ -1,6 +1,5 @@
 -- What the loops of `writing::put_ending` keep.
 use mathlib.Core.Path.{◌≡◌}
-use Prim.Native.Nat.{◌-◌}
 use Rattle.exact.specs.Meaning.Word.{bytes}
 use Rattle.writing.specs.Endings.{end_word, end_size}
 use Rattle.writing.specs.Put.{Putting}
@@ -8,6 +7,3 @@ use Rattle.writing.proofs.put_ending.Given as goal
 
 abbrev pub invariant-loop-j : goal.invariant-loop-j
 invariant-loop-j l = (l.n ≡ end_size l.e) × Putting l.initial.buf l.at (bytes (end_word l.e)) l.n l.buf l.j
-
-abbrev pub decreases-loop-j : goal.decreases-loop-j
-decreases-loop-j l = l.n - l.j

@@ -15,13 +15,13 @@ pub bounds-buf-at-2 : goal.bounds-buf-at-2
 bounds-buf-at-2 c = search second_there
 
 pub overflow_add-buf-2 : goal.overflow_add-buf-2
-overflow_add-buf-2 c = let whole : c.args.at + c.letters_in-n.result ≤ length c.args.buf.now = search whole_room in omega (arith, whole)
+overflow_add-buf-2 c = let whole : c.args.at + c.from-n.result ≤ length c.args.buf.now = search whole_room in omega (arith, whole)
 
 pub bounds-buf-at-3 : goal.bounds-buf-at-3
 bounds-buf-at-3 c = search last_there
 
 pub overflow_add-result : goal.overflow_add-result
-overflow_add-result c = let whole : c.args.at + c.letters_in-n.result ≤ length c.args.buf.now = search whole_room in omega (arith, whole)
+overflow_add-result c = let whole : c.args.at + c.from-n.result ≤ length c.args.buf.now = search whole_room in omega (arith, whole)
 
 pub returns : goal.returns
 returns c = search spelt

@@ -4,6 +4,12 @@ use Rattle.exact.proofs.Whole.Machine.{arg, ◌∔◌, ◌∸◌, ◌∗◌}
 use Rattle.ring.specs.Code.{fits₁, is₁}
 use Rattle.ring.proofs.ZOmega.crosses.Goals as goal
 
+pub overflow_mul-result : goal.overflow_mul-result
+overflow_mul-result c = search (fits₁ (2 ^ 30) (arg 0 ∗ arg 1) tt)
+
+pub overflow_mul-result-2 : goal.overflow_mul-result-2
+overflow_mul-result-2 c = search (fits₁ (2 ^ 30) (arg 1 ∗ arg 2) tt)
+
 pub overflow_add-result : goal.overflow_add-result
 overflow_add-result c = search (fits₁ (2 ^ 30) (arg 0 ∗ arg 1 ∔ arg 1 ∗ arg 2) tt)
 

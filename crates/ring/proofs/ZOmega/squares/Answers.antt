@@ -4,6 +4,9 @@ use Rattle.exact.proofs.Whole.Machine.{arg, ◌∔◌, ◌∗◌}
 use Rattle.ring.specs.Code.{fits₁, is₁}
 use Rattle.ring.proofs.ZOmega.squares.Goals as goal
 
+pub overflow_add-result : goal.overflow_add-result
+overflow_add-result c = search (fits₁ (2 ^ 30) (arg 0 ∗ arg 0 ∔ arg 1 ∗ arg 1) tt)
+
 pub overflow_add-result-2 : goal.overflow_add-result-2
 overflow_add-result-2 c = search (fits₁ (2 ^ 30) (arg 0 ∗ arg 0 ∔ arg 1 ∗ arg 1 ∔ arg 2 ∗ arg 2) tt)
 

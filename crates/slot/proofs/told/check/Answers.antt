@@ -5,5 +5,5 @@ use Rattle.slot.proofs.told.check.Goals as goal
 pub check_codes-requires : goal.check_codes-requires
 check_codes-requires c = search ranges_by
 
-pub returns : goal.returns
-returns c = search wrong_ranges
+pub returns-else-ranged : goal.returns-else-ranged
+returns-else-ranged c = search wrong_ranges

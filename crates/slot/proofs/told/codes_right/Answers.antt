@@ -1,28 +1,28 @@
 -- `slot::told::codes_right` meets its contract. Assumes nothing.
-use native.Mathlib.Omega.{arith}
-use Rattle.slot.proofs.Tests.{fronts_none, fronts_first, fronts_more, fronts_end}
+use Rattle.std.specs.Prelude.{◌≡◌, ◌&&◌, List, ℕ, ◌-◌, ◌/◌, eqb, length, take, drop, get_or}
+use Rattle.std.proofs.Common.{◌∙◌, ap, arith, add_comm, length-drop, take_all}
+use Rattle.std.proofs.lemmas.Grind.{get_or_after_one}
+use Rattle.slot.proofs.Tests.{fronts_first, fronts_more, fronts_end}
 use Rattle.slot.proofs.told.codes_right.Goals as goal
 
-pub returns-then-count-eq0 : goal.returns-then-count-eq0
-returns-then-count-eq0 c = search fronts_none
+-- the codes behind the first, as they are cut
+others : (codes : List ℕ) → take (length codes - 1) (drop 1 codes) ≡ drop 1 codes
+others codes = take_all (length codes - 1) (drop 1 codes) (omega (arith, length-drop 1 codes))
 
-pub bounds-items-0 : goal.bounds-items-0
-bounds-items-0 c = omega arith
+pub loop-code-init : goal.loop-code-init
+loop-code-init c = fronts_first (omega arith) c.both-right.ensures
 
-pub loop-i-init : goal.loop-i-init
-loop-i-init c = search fronts_first
-
-pub bounds-items-i : goal.bounds-items-i
-bounds-items-i c = omega arith
-
-pub overflow_add-i : goal.overflow_add-i
-overflow_add-i c = omega arith
-
-pub loop-i-smaller : goal.loop-i-smaller
-loop-i-smaller c = omega arith
-
-pub loop-i-preserved : goal.loop-i-preserved
-loop-i-preserved c = search fronts_more
+pub loop-code-preserved : goal.loop-code-preserved
+loop-code-preserved c =
+    let codes = c.args.codes.now in
+    let i = c.loop-code.code-index in
+    let here = ap (λ (xs : List ℕ). get_or xs i 0) (others codes) ∙ get_or_after_one codes i 0 ∙ ap (λ (j : ℕ). get_or codes j 0) (add_comm 1 i) in
+    let short = ap length (others codes) in
+    fronts_more c.loop-code.invariant (omega (arith, short, length-drop 1 codes))
+    (c.both-right-in-loop-code.ensures ∙ ap (λ (x : ℕ). c.loop-code.right && eqb (x / 2) 1) here)
 
 pub returns : goal.returns
-returns c = search fronts_end
+returns c =
+    let codes = c.args.codes.now in
+    let short = ap length (others codes) in
+    fronts_end c.loop-code.invariant (omega (arith, short, length-drop 1 codes))
