@@ -201,6 +201,7 @@ fn decompose_domega_unitary(t: Reduced, work: &mut [u8]) -> Decomposed
     let mut u = t;
     let mut len: usize = 0;
     let mut steps: usize = 0;
+    // It ends where there is no step: no index is counted to.
     loop {
         let Some((m, next)) = reduce_denomexp(u) else {
             break;
