@@ -31,6 +31,7 @@ const KINDS: usize = 504;
 
 const PAIRS: usize = 576;
 
+// No From: the numbers of axes end at 2.
 fn axis_at(a: usize) -> Axis
     ensures { result ≡ axis_at a }
 {
