@@ -18,9 +18,7 @@ const NOUGHT: DOmegaUnitary = DOmegaUnitary {
 
 fn matrix<W: Write>(out: &mut W, t: DOmegaUnitary) -> io::Result<()> {
     let DOmegaUnitary { z, w, n, k } = t;
-    write!(out, " k={k} n={n}")?;
-    write!(out, " z={},{},{},{}", z.a, z.b, z.c, z.d)?;
-    writeln!(out, " w={},{},{},{}", w.a, w.b, w.c, w.d)
+    writeln!(out, " k={k} n={n} z={z} w={w}")
 }
 
 fn reduced<W: Write>(out: &mut W, label: &str, t: Triple) -> io::Result<()> {
