@@ -15,7 +15,8 @@ const NOUGHT: DOmegaUnitary = DOmegaUnitary {
 };
 
 fn matrix<W: Write>(out: &mut W, t: DOmegaUnitary) -> io::Result<()> {
-    writeln!(out, " k={} n={} z={} w={}", t.k, t.n, t.z, t.w)
+    let DOmegaUnitary { z, w, n, k } = t;
+    writeln!(out, " k={k} n={n} z={z} w={w}")
 }
 
 fn reduced<W: Write>(out: &mut W, label: &str, t: Triple) -> io::Result<()> {
