@@ -4,10 +4,9 @@ use Rattle.std.proofs.Common.{sym, ◌∙◌, ap}
 use Rattle.exact.specs.Meaning.Matrix.{Matrix, Same}
 use Rattle.exact.specs.Meaning.Word.{Letter, word, Spelled}
 use Rattle.exact.specs.Meaning.Triple.{Triple, entries, Unitary}
-use Rattle.exact.specs.Meaning.Outcome.{Refusals, none, ◌then◌, Rung, Outcome}
+use Rattle.exact.specs.Meaning.Outcome.{none, ◌then◌}
 use Rattle.exact.specs.Meaning.Handed.{number, place, checked}
 use Rattle.exact.specs.declared.Refusal.{Refusal}
-use Rattle.exact.specs.Outcomes.Ladder.{Checks}
 use Rattle.exact.proofs.Outcomes.Handed.{one_refusal, number_some, check_place, one_result}
 use Rattle.exact.specs.Meaning.Refusals.{long, letter, deep, checks}
 use Rattle.exact.proofs.Matrices.Same.{Same-sym, Same-trans, Same-of}
@@ -22,6 +21,7 @@ use Rattle.unitary.specs.declared.DOmegaUnitary.{DOmegaUnitary}
 use Rattle.unitary.specs.Meaning.{triple, given, Answers, Checked, refused, as_checked, Reduces, ReduceOutcome}
 use Rattle.unitary.specs.Meaning.{FromGates, stopped, as_from_gates, Multiplies, MatrixOutcome}
 use Rattle.unitary.specs.Checks.{CheckOutcome}
+use Rattle.unitary.specs.Results.{result_told}
 use Rattle.unitary.specs.Triples.{triple_inj}
 
 -- the answers for a unitary matrix
@@ -72,26 +72,10 @@ module _ (k : ℤ) (z w : ZOmega) where
   check_result_unique (Err e) (Err f) c d = ap Err (one_error e f c d)
 
   -- job 1
-  numbered : (m : Matrix) (e : Refusal) (fs : Refusals) → Outcome refused (Reduces m) fs (as_checked (Err e)) → Checks fs (number e)
-  numbered m e none o = o.taken
-  numbered m e (f then fs) (Rung.given p h x) = Rung.given p h (ap (λ (c : Checked). c.refusal) x)
-  numbered m e (f then fs) (Rung.passed n x) = Rung.passed n (numbered m e fs x)
-
-  module _ (n : ℕ) where
-    abbrev Job1 : Result DOmegaUnitary Refusal → Type 0
-    Job1 r = ReduceOutcome k n z w (as_checked r)
-
-    same_number : (r s : Result DOmegaUnitary Refusal) → Job1 r → Job1 s → (as_checked r).refusal ≡ (as_checked s).refusal
-    same_number r s o p = ap (λ (c : Checked). c.refusal) (reduce_unique k n z w (as_checked r) (as_checked s) o p)
-
-    pub reduce_result_unique : Only Job1
-    reduce_result_unique (Ok a) (Ok b) o p =
-        ap (λ (c : Checked). Ok c.matrix) (reduce_unique k n z w (as_checked (Ok a)) (as_checked (Ok b)) o p)
-    reduce_result_unique (Ok a) (Err f) o p = absurd (number_some f (sym (same_number (Ok a) (Err f) o p)))
-    reduce_result_unique (Err e) (Ok b) o p = absurd (number_some e (same_number (Err e) (Ok b) o p))
-    reduce_result_unique (Err e) (Err f) o p =
-        let m = entries (given k n z w) in
-        ap Err (one_error e f (numbered m e (checks k (quad z) (quad w)) o) (numbered m f (checks k (quad z) (quad w)) p))
+  pub reduce_result_unique : (n : ℕ) → Only (λ (r : Result DOmegaUnitary Refusal). ReduceOutcome k n z w (as_checked r))
+  reduce_result_unique n =
+      result_told refused (λ (t : DOmegaUnitary). as_checked (Ok t)) (Reduces (entries (given k n z w))) (λ (r : Checked). r.refusal) (λ n p. refl)
+      (λ r a. a.taken) (λ a. refl) (λ a b e. ap (λ (r : Checked). r.matrix) e) k z w (reduce_unique k n z w)
 
 -- job 2
 pub from_gates_told : (r s : Result DOmegaUnitary Refusal) → as_from_gates r ≡ as_from_gates s → r ≡ s

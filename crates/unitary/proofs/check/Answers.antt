@@ -2,7 +2,6 @@
 use mathlib.Core.Path.{◌≡◌, ap}
 use mathlib.Core.Bool.{Bool, true, false, not}
 use Rattle.unitary.specs.Checked.{refused_low, refused_high, few_inside, refused_z, refused_w, small_inside, refused_sums, all_passed}
-use borrow.Author.Rules.{rules}
 use Rattle.unitary.proofs.check.Goals as goal
 use Rattle.unitary.proofs.check.Goals.{then-t-lt0-via-then-t-lt0, then-t-lt0-via-else-t-lt0+then-t-gt-DEEPEST}
 use Rattle.unitary.proofs.check.Goals.{then-not-within_limits-via-then-not-within_limits, then-not-within_limits-via-else-not-within_limits+then-not-within_limits-2}
