@@ -5,12 +5,11 @@ use mathlib.Core.List.{[], ◌∷◌}
 use Prim.Native.Nat.{ℕ, ◌+◌, ◌/◌, ◌%◌, ◌^◌, ◌≤◌}
 use native.Mathlib.Nat.{le_trans}
 use native.Mathlib.Omega.{arith}
-use lib.Dec.{T, eqb, eqb→eq, lit≤}
+use lib.Dec.{T, eqb, eqb→eq}
 use lib.Pow.{pow_mono}
 use lib.IntN.{ℤ, pos, negsuc, nat_abs, ◌+ℤ◌}
 use lib.Ieee.{Float}
 use mir.Syntax.{w64}
-use mir.Val.{SFits}
 use Rattle.view.specs.Meaning.Surd.{Surd, over}
 use Rattle.view.specs.Meaning.Near.{Shows}
 use Rattle.view.specs.Size.{Fit}
