@@ -60,5 +60,5 @@ returns-then-r-rest c = search (cut_stands, c.split_at.ensures.front, c.split_at
 pub returns-else-r-rest : goal.returns-else-r-rest
 returns-else-r-rest c = search (cut_other, c.split_at.ensures.front, c.split_at.ensures.back)
 
-pub returns-else-both : goal.returns-else-both
-returns-else-both c = search (cut_wrong, c.split_at.ensures.front, c.split_at.ensures.back)
+pub returns-else-codes_right-behind : goal.returns-else-codes_right-behind
+returns-else-codes_right-behind c = search (cut_wrong, c.split_at.ensures.front, c.split_at.ensures.back)
