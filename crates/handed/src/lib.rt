@@ -4,6 +4,7 @@
 ghost use Rattle.std.specs.Prelude.{◌≡◌};
 ghost use Rattle.handed.specs.Meaning.{triple_of, ten, eight_of, nineteen_of, counts, counts_of, steps_of, counts_in, four_of, five_of};
 ghost use Rattle.normal_form.specs.Meaning.{written};
+ghost use Rattle.qasm.specs.Meaning.{written as converted};
 ghost use Rattle.synthesis_of_clifford_t.specs.Meaning.{synthesised};
 
 use clifford::{Clifford, Coset};
