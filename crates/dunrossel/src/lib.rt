@@ -55,31 +55,15 @@ pub fn dunrossel_matrix(word: &[u8], out: &mut [i64; 10], place: &mut u64) -> u8
 pub fn dunrossel_normalise(word: &[u8], buf: &mut [u8], out: &mut [u64; 3]) -> u8
     ensures { Writes Normalises word.now buf.old (result, (out.new, buf.new)) }
 {
-    match normal_form::normalise(word, buf) {
-        Ok(counts) => {
-            handed::put_counts(counts, out);
-            exact::ACCEPTED
-        }
-        Err(refusal) => {
-            *out = [refusal.place() as u64, 0, 0];
-            refusal.number()
-        }
-    }
+    let answer = normal_form::normalise(word, buf);
+    handed::put_counts(answer, out)
 }
 
 pub fn dunrossel_phase_free(word: &[u8], buf: &mut [u8], out: &mut [u64; 3]) -> u8
     ensures { Writes DropsPhase word.now buf.old (result, (out.new, buf.new)) }
 {
-    match normal_form::phase_free(word, buf) {
-        Ok(counts) => {
-            handed::put_counts(counts, out);
-            exact::ACCEPTED
-        }
-        Err(refusal) => {
-            *out = [refusal.place() as u64, 0, 0];
-            refusal.number()
-        }
-    }
+    let answer = normal_form::phase_free(word, buf);
+    handed::put_counts(answer, out)
 }
 
 // The length, or 0 where it is refused.
@@ -187,16 +171,7 @@ pub fn dunrossel_synthesise(k: i64, n: u8, zw: &[i64; 8], buf: &mut [u8], out: &
 {
     let t = handed::triple_of(k, n, zw);
     let answer = synthesis_of_clifford_t::synthesise(t, buf);
-    match answer {
-        Ok(spelt) => {
-            handed::put_synthesis(spelt, out);
-            exact::ACCEPTED
-        }
-        Err(refusal) => {
-            *out = [0; 3];
-            refusal.number()
-        }
-    }
+    handed::put_synthesis(answer, out)
 }
 
 pub fn dunrossel_synthesise_steps(
@@ -210,16 +185,7 @@ pub fn dunrossel_synthesise_steps(
 {
     let t = handed::triple_of(k, n, zw);
     let counted = synthesis_of_clifford_t::synthesise(t, buf);
-    match counted {
-        Ok(spelt) => {
-            handed::put_steps(spelt, out);
-            exact::ACCEPTED
-        }
-        Err(refusal) => {
-            *out = [0; 4];
-            refusal.number()
-        }
-    }
+    handed::put_steps(counted, out)
 }
 
 pub fn dunrossel_qasm2_write(word: &[u8], buf: &mut [u8], out: &mut [u64; 2]) -> u8

@@ -44,10 +44,21 @@ pub fn put_ten(t: DOmegaUnitary, out: &mut [i64; 10])
     ];
 }
 
-pub fn put_counts(c: Counts, out: &mut [u64; 3])
-    ensures { out.new ≡ counts (written (Ok c)) }
+// The place and the counts are put, and the refusal's number is returned. Its twins below put other counts into arrays of other sizes, which C lends.
+pub fn put_counts(answer: Result<Counts, Refusal>, out: &mut [u64; 3]) -> u8
+    ensures refusal { result ≡ (written answer).refusal }
+    ensures counts { out.new ≡ counts (written answer) }
 {
-    *out = [0, c.bytes as u64, c.tees as u64];
+    match answer {
+        Ok(c) => {
+            *out = [0, c.bytes as u64, c.tees as u64];
+            exact::ACCEPTED
+        }
+        Err(refusal) => {
+            *out = [refusal.place() as u64, 0, 0];
+            refusal.number()
+        }
+    }
 }
 
 pub fn put_clifford(q: Clifford, out: &mut [i32; 4])
@@ -111,24 +122,44 @@ pub fn put_rotation(r: Rotation, out: &mut [i64; 19])
     ];
 }
 
-pub fn put_synthesis(answer: Spelt, out: &mut [u64; 3])
-    ensures { out.new ≡ counts_of (synthesised (Ok answer)) }
+pub fn put_synthesis(answer: Result<Spelt, Refusal>, out: &mut [u64; 3]) -> u8
+    ensures refusal { result ≡ (synthesised answer).refusal }
+    ensures counts { out.new ≡ counts_of (synthesised answer) }
 {
-    *out = [0, answer.bytes as u64, answer.tees as u64];
+    match answer {
+        Ok(spelt) => {
+            *out = [0, spelt.bytes as u64, spelt.tees as u64];
+            exact::ACCEPTED
+        }
+        Err(refusal) => {
+            *out = [0; 3];
+            refusal.number()
+        }
+    }
 }
 
-pub fn put_steps(answer: Spelt, out: &mut [u64; 4])
-    ensures { out.new ≡ steps_of (synthesised (Ok answer)) }
+pub fn put_steps(answer: Result<Spelt, Refusal>, out: &mut [u64; 4]) -> u8
+    ensures refusal { result ≡ (synthesised answer).refusal }
+    ensures steps { out.new ≡ steps_of (synthesised answer) }
 {
-    *out = [
-        0,
-        answer.bytes as u64,
-        answer.tees as u64,
-        answer.steps as u64,
-    ];
+    match answer {
+        Ok(spelt) => {
+            *out = [
+                0,
+                spelt.bytes as u64,
+                spelt.tees as u64,
+                spelt.steps as u64,
+            ];
+            exact::ACCEPTED
+        }
+        Err(refusal) => {
+            *out = [0; 4];
+            refusal.number()
+        }
+    }
 }
 
-// The place and the bytes are put, and the refusal's number is returned.
+// A circuit has no T letters to count.
 pub fn put_pair(answer: Result<usize, Refusal>, out: &mut [u64; 2]) -> u8
     ensures refusal { result ≡ (converted answer).refusal }
     ensures pair { out.new ≡ counts_in (converted answer) }
