@@ -1,5 +1,5 @@
 -- What the writer's functions promise one another: a word measured, and its lines put. Assumes nothing.
-use Rattle.std.specs.Prelude.{◌≡◌, List, ℕ, ◌<◌, ◌≤◌, length, get_or, Option, Some, None, Result, Ok, Err}
+use Rattle.std.specs.Prelude.{◌≡◌, cond, List, ℕ, ◌+◌, ◌<◌, ◌≤◌, eqb, ltb, length, get_or, Option, Some, None, Result, Ok, Err}
 use Rattle.exact.specs.Meaning.Word.{Letter, W, byte, bytes, IsLetter}
 use Rattle.exact.specs.Meaning.Limits as Limits
 use Rattle.exact.specs.Outcomes.Enums.{Says}
@@ -36,6 +36,9 @@ pub record PhaseIs (w : List ℕ) (p : ℕ) : Type 0 where
   pub upto : p ≤ length w
   pub before : (i : ℕ) → i < p → get_or w i 0 ≡ byte W → ⊥
   pub there : p < length w → get_or w p 0 ≡ byte W
+
+abbrev pub past_phase : ℕ → ℕ → ℕ → ℕ
+past_phase p i b = cond (ltb p i) p (cond (eqb b 87) i (i + 1))
 
 -- each case by its refusal and place
 abbrev pub refusal_of : Result Measured Refusal → ℕ × ℕ

@@ -1,8 +1,10 @@
 -- The laws by which the writer's functions keep their promises: a line more measured, a line more put. Assumes nothing.
-use Rattle.std.specs.Prelude.{◌≡◌, refl, List, [], ◌∷◌, ◌++◌, ℕ, zero, suc, ◌+◌, ◌*◌, ◌<◌, ◌≤◌, length, take, set, get_or, Option, Some, None, Err}
-use Rattle.std.proofs.Common.{sym, ◌∙◌, ap, ap₂, subst, add-one, append-nil, append_assoc, arith, Fits, length-append, length-take-le, take-suc, take_all, get_or-take}
+use Rattle.std.specs.Prelude.{◌≡◌, refl, Bool, true, false, cond, List, [], ◌∷◌, ◌++◌, ℕ, zero, suc, ◌+◌, ◌*◌, ◌<◌, ◌≤◌, eqb, ltb, length, take, set, get_or, Option, Some, None, Err}
+use Rattle.std.proofs.Common.{sym, ◌∙◌, ap, ap₂, subst, add-one, append-nil, append_assoc, arith, eqb-true, ltb-true, ltb-false, lt-ltb, le-ltb, eq-eqb, ne_eqb, Fits, length-append, length-take-le, take-suc, take_all, get_or-take}
+use Rattle.std.proofs.lemmas.Bool.{eqb-false}
 use Rattle.std.proofs.lemmas.Option.{none-some, same_Some}
 use Rattle.std.specs.Int.{w8, w64}
+use Rattle.std.proofs.Math.ListN.{get_or-append}
 use Rattle.std.proofs.Math.Seq.{get_or-append_seam}
 use Rattle.exact.specs.Meaning.Word.{Letter, I, H, S, X, W, T', byte, bytes, IsLetter, FirstOutside}
 use Rattle.exact.specs.declared.Refusal.{Refusal}
@@ -12,7 +14,7 @@ use Rattle.exact.proofs.Cases.Letters.{letter_of_byte, letters_of_append, letter
 use Rattle.lent.specs.Written.{Written as Puts, written_both, written_byte, written_length}
 use Rattle.circuit.specs.Meaning.{lines, statement_of, circuit}
 use Rattle.circuit.proofs.Lines.{lines_append, cons_head, cons_tail, bytes_append}
-use Rattle.circuit_writer.specs.Writing.{Spells, size_of, size, SizeIs, letter, no_letter, Measures, MeasureIs}
+use Rattle.circuit_writer.specs.Writing.{Spells, size_of, size, SizeIs, letter, no_letter, Measures, PhaseIs, past_phase, MeasureIs}
 
 -- ---- the size of a line
 pub size_H : {b : ℕ} → b ≡ 72 → SizeIs b (Some 8)
@@ -45,10 +47,35 @@ module _ {b : ℕ} (h : b ≡ 72 → ⊥) (s : b ≡ 83 → ⊥) (t : b ≡ 84 �
       go W e = w (sym e)
       go T' e = t (sym e)
 
+-- ---- the place of the first W, one letter on
+pub past_there : (p i b : ℕ) → p < i → p ≡ past_phase p i b
+past_there p i b l = rw (lt-ltb p i l)
+
+module _ (p i b : ℕ) (l : i ≤ p) where
+  pub past_here : b ≡ 87 → i ≡ past_phase p i b
+  past_here e = rw (le-ltb p i l, eq-eqb b 87 e)
+
+  pub past_behind : (b ≡ 87 → ⊥) → i + 1 ≡ past_phase p i b
+  past_behind n = rw (le-ltb p i l, ne_eqb b 87 n)
+
 -- ---- a letter's line
 pub gate_put : (l : List ℕ) (at n : ℕ) {m : List ℕ} {i : ℕ} → Puts (set l at n) (at + 1) (ascii " q[0];\n") m i
     → Puts l at (n ∷ ascii " q[0];\n") m i
 gate_put l at n p = written_both (written_byte l at n) p
+
+-- the same, byte by byte
+one_more : {l : List ℕ} {at : ℕ} {t m : List ℕ} {i : ℕ} → Puts l at t m i → (j b : ℕ) → i ≡ j → Puts l at (t ++ (b ∷ [])) (set m j b) (j + 1)
+one_more {l} {at} {t} {m} {i} p j b e = written_both (subst (Puts l at t m) e p) (written_byte m j b)
+
+pub gate_put_by_bytes : (l : List ℕ) (at n : ℕ)
+    → Puts l at (n ∷ ascii " q[0];\n")
+    (set (set (set (set (set (set (set (set l at n) (at + 1) 32) (at + 2) 113) (at + 3) 91) (at + 4) 48) (at + 5) 93) (at + 6) 59) (at + 7) 10)
+    (at + 8)
+gate_put_by_bytes l at n =
+    let four = one_more (one_more (one_more (written_byte l at n) (at + 1) 32 refl) (at + 2) 113 (omega arith)) (at + 3) 91 (omega arith) in
+    let six = one_more (one_more four (at + 4) 48 (omega arith)) (at + 5) 93 (omega arith) in
+    let eight = one_more (one_more six (at + 6) 59 (omega arith)) (at + 7) 10 (omega arith) in
+    subst (Puts l at (n ∷ ascii " q[0];\n") _) (omega arith) eight
 
 -- I has no line
 pub line_I : {b : ℕ} (l : List ℕ) (at : ℕ) → b ≡ 73 → Puts l at (lines (statement_of (letter_of b))) l at
@@ -136,6 +163,47 @@ module _ (v : List ℕ) (b : ℕ) where
             ∙ omega (arith, size_append (letters_of v) (letter_of b ∷ []), size_one (letter_of b))
             ∙ ap size (sym (letters_of_append v (b ∷ [])));
       }
+
+  phase_more : (p : ℕ) → PhaseIs v p → PhaseIs (v ++ (b ∷ [])) (past_phase p (length v) b)
+  phase_more p h = go (ltb p (length v)) refl (eqb b 87) refl
+    where
+      long : length (v ++ (b ∷ [])) ≡ length v + 1
+      long = length-append v (b ∷ [])
+
+      within : (i : ℕ) → i < length v → get_or (v ++ (b ∷ [])) i 0 ≡ get_or v i 0
+      within i l = get_or-append v (b ∷ []) 0 i l
+
+      before : (i : ℕ) → i < p → get_or (v ++ (b ∷ [])) i 0 ≡ byte W → ⊥
+      before i l e = h.before i l (sym (within i (omega (arith, h.upto))) ∙ e)
+
+      last : (i : ℕ) → i ≡ length v → get_or (v ++ (b ∷ [])) i 0 ≡ b
+      last i e = ap (λ k. get_or (v ++ (b ∷ [])) k 0) e ∙ get_or-append_seam v b [] 0
+
+      go : (x : Bool) → ltb p (length v) ≡ x → (y : Bool) → eqb b 87 ≡ y
+          → PhaseIs (v ++ (b ∷ [])) (cond x p (cond y (length v) (length v + 1)))
+      go true e y f =
+          let l : p < length v = ltb-true p (length v) e in
+          record { upto = omega (arith, long); before = before; there = λ k. within p l ∙ h.there l }
+      go false e true f =
+          let l : length v ≤ p = ltb-false p (length v) e in
+          record {
+            upto = omega (arith, long);
+            before = λ i m. before i (omega arith);
+            there = λ k. last (length v) refl ∙ eqb-true b 87 f;
+          }
+      go false e false f =
+          let l : length v ≤ p = ltb-false p (length v) e in
+          record {
+            upto = omega (arith, long);
+            before = λ i m g. past i m g (ltb i p) refl;
+            there = λ k. absurd (omega (arith, long));
+          }
+        where
+          past : (i : ℕ) → i < length v + 1 → get_or (v ++ (b ∷ [])) i 0 ≡ byte W → (z : Bool) → ltb i p ≡ z → ⊥
+          past i m g true q = before i (ltb-true i p q) g
+          past i m g false q =
+              let n : p ≤ i = ltb-false i p q in
+              eqb-false b 87 f (sym (last i (omega (arith, h.upto, ltb-false p (length v) e))) ∙ g)
 
 -- ---- letters of bytes that spell
 pub spells_at : (w : List ℕ) → Spells w → (i : ℕ) → i < length w → IsLetter (get_or w i 0)

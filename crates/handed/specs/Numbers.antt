@@ -2,7 +2,7 @@
 use Rattle.std.specs.Prelude.{◌≡◌, ℕ, ◌<◌, ◌^◌, ℤ, pos}
 use Rattle.std.proofs.Common.{arith, Fits, to_z, to_z-of_z}
 use Rattle.std.specs.Int.Signed.{mag}
-use Rattle.std.specs.Int.{w8, w64}
+use Rattle.std.specs.Int.{w8, w32, w64}
 use Rattle.std.proofs.Math.Facts.{to_z_pos}
 use Rattle.exact.proofs.Whole.Machine.{held}
 use Rattle.exact.proofs.Whole.Size.{sfits_abs}
@@ -17,9 +17,15 @@ pub record Wide (x : ℕ) (r : ℤ) : Type 0 where
 pub wide_is : (x : ℕ) → Fits w8 x → Wide x (to_z w64 x)
 wide_is x f = record { is = to_z_pos w64 (omega (arith, f.fits)); small = omega (arith, f.fits) }
 
+pub narrow_is : (x : ℕ) → Fits w8 x → Wide x (to_z w32 x)
+narrow_is x f = record { is = to_z_pos w32 (omega (arith, f.fits)); small = omega (arith, f.fits) }
+
 -- as it is read back
 pub wide_held : {x : ℕ} {r : ℤ} → Wide x r → held w64 r ≡ pos x
 wide_held {x} {r} h = rw h.is (to_z-of_z {w = w64} {z = pos x} (sfits_abs (omega (arith, h.small))))
+
+pub narrow_held : {x : ℕ} {r : ℤ} → Wide x r → held w32 r ≡ pos x
+narrow_held {x} {r} h = rw h.is (to_z-of_z {w = w32} {z = pos x} (sfits_abs (omega (arith, h.small))))
 
 pub held_is : (x : ℤ) → mag x < 2 ^ 63 → held w64 x ≡ x
 held_is x f = to_z-of_z {w = w64} {z = x} (record { sfits = f })
