@@ -204,6 +204,18 @@ module _ (s : List ℕ) (at : ℕ) (phase : Bool) (l : at < length s) where
         ),
       ))
 
+  -- any first byte but those of the gates, where there is no phase
+  pub line_no_phase_of : (get_or s at 0 ≡ 104 → ⊥) → (get_or s at 0 ≡ 120 → ⊥) → (get_or s at 0 ≡ 115 → ⊥) → (get_or s at 0 ≡ 116 → ⊥)
+      → not phase ≡ true → LineIs phase s at (Err (Refusal.Statement at))
+  line_no_phase_of h x es t e =
+      none_starts s at l phase
+      (each (λ b. T (allowed phase b) → get_or s at 0 ≡ get_or (line_of b) 0 0 → ⊥)
+      ((λ u. h), ((λ u. es), ((λ u. t), ((λ u. x), ((λ u. es), ((λ u. t), (λ u. no_phase phase e u))))))))
+    where
+      no_phase : (p : Bool) → not p ≡ true → T p → get_or s at 0 ≡ 103 → ⊥
+      no_phase true e u f = subst T (sym e) tt
+      no_phase false e u f = u
+
 -- ---- the header
 -- both headers have the same bytes before the tenth
 alike : (d e : Edition) (k : ℕ) → k < 9 → get_or (header d) k 0 ≡ get_or (header e) k 0

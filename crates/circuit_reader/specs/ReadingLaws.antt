@@ -1,14 +1,14 @@
 -- The laws by which the reader's functions keep their promises: a byte more gone along, a line more walked.
 -- Assumes nothing.
-use Rattle.std.specs.Prelude.{◌≡◌, refl, ◌⊎◌, Bool, true, false, ◌&&◌, ℕ, ◌+◌, ◌-◌, ◌<◌, ◌≤◌, ◌^◌, eqb, take, drop, get_or, Option, Some, Result, Ok, Err}
+use Rattle.std.specs.Prelude.{◌≡◌, refl, Bool, true, false, ◌&&◌, ℕ, ◌+◌, ◌-◌, ◌<◌, ◌≤◌, ◌^◌, min, eqb, take, drop, get_or, Option, None, Some, Result, Ok, Err}
 use Rattle.std.proofs.Math.Path.{sym, ap, ap₂}
-use Rattle.std.proofs.Common.{◌∙◌, subst, inl, inr, add-one, arith, eqb-true, Fits, length-drop, take-append-drop, drop_of_length-le, take-suc, take_all, drop-cons, drop-drop}
-use Rattle.std.proofs.lemmas.Bool.{false≢true, eqb-false}
-use Rattle.std.proofs.lemmas.Option.{same_Some}
+use Rattle.std.proofs.Common.{◌∙◌, subst, add-one, arith, eqb-true, ne_eqb, Fits, length-drop, take-append-drop, drop_of_length-le, take-suc, take_all, drop-cons, drop-drop}
+use Rattle.std.proofs.lemmas.Bool.{false≢true}
+use Rattle.std.proofs.lemmas.Option.{none-some, same_Some}
 use mathlib.Core.List.{List, [], ◌∷◌, ◌++◌, append-nil, append_assoc}
 use Rattle.std.specs.Int.{w64}
 use Rattle.std.proofs.Math.Dec.{T}
-use Rattle.std.proofs.Math.ListN.{length, length-append}
+use Rattle.std.proofs.Math.ListN.{length, length-append, get_or-eq_default}
 use Rattle.exact.specs.declared.Refusal.{Refusal}
 use Rattle.exact.specs.Meaning.Text.{ascii, Stops}
 use Rattle.circuit_reader.specs.declared.Line.{Line}
@@ -56,8 +56,17 @@ module _ {s w : List ℕ} {k : ℕ} (h : Going s w k) where
       same : length w ≡ k
       same = omega (arith, h.upto_word)
 
+  -- also where the text ends first
+  pub going_end : min (length s) (length w) ≤ k → Along s w k
+  going_end l =
+      record { upto_word = h.upto_word; upto = h.upto; along = h.along; differ = λ m o. absurd (omega arith) }
+
   pub going_more : k < length w → k < length s → get_or s k 0 ≡ get_or w k 0 → Going s w (k + 1)
   going_more l m e = record { upto_word = omega arith; upto = omega arith; along = one_further s w k h.along m l e }
+
+-- ---- a byte that is not there
+pub beyond_end : (s : List ℕ) (at b : ℕ) → length s ≤ at → 0 < b → false ≡ eqb (get_or s at 0) b
+beyond_end s at b l m = rw (get_or-eq_default s 0 l) (sym (ne_eqb 0 b (λ e. omega arith)))
 
 -- a slice from a place on
 from_there : (s : List ℕ) (at : ℕ) → take (length s - at) (drop at s) ≡ drop at s
@@ -85,6 +94,12 @@ module _ (s : List ℕ) (at : ℕ) (w : List ℕ) (n k : ℕ) (a : Along (take (
   matched_fits l m = record { fits = omega (arith, g.upto, length-drop at s) }
 
 -- ---- a gate's line told at once
+pub tail_none : (s : List ℕ) → TailIs s false
+tail_none s = record { there = λ e. absurd (false≢true e) }
+
+pub gate_none : (b : ℕ) → GateIs b false
+gate_none b = record { gate = λ e. absurd (false≢true e) }
+
 gate_named : (a : Statement) → length (read_as a) ≡ 1 → ((p : Bool) → T (allowed p a)) → {b : ℕ} → line_of a ≡ b ∷ ascii " q[0];\n" → GateIs b true
 gate_named a o m e = record { gate = λ q. record { statement = a; named = e; one = o; may = m } }
 
@@ -127,6 +142,9 @@ gate_at phase s at z y l g p t q =
         ∙ ap (λ x. x ++ drop (at + 8) s) (sym n.named)
 
 -- ---- sdg and tdg told at once
+pub dagger_none : (s : List ℕ) → DaggerIs s None
+dagger_none s = record { there = λ n e. absurd (none-some n e) }
+
 module _ (s : List ℕ) (l : 3 ≤ length s) (d : get_or s 1 0 ≡ 100) (g : get_or s 2 0 ≡ 103) (z : Bool)
     (t : TailIs (take (length s - 3) (drop 3 s)) z) (yes : z ≡ true) where
   dagger_there : (a : Statement) (x : ℕ) → line_of a ≡ x ∷ 100 ∷ 103 ∷ ascii " q[0];\n" → ((p : Bool) → T (allowed p a)) → get_or s 0 0 ≡ x

@@ -16,7 +16,9 @@ use Rattle.exact.specs.Meaning.Handed.{number, place}
 use Rattle.exact.specs.Meaning.Refusals.{letter}
 use Rattle.exact.specs.Outcomes.Enums.{When, Says}
 use Rattle.circuit_writer.specs.declared.Measured.{Measured}
-use Rattle.circuit.specs.Meaning.{Edition, two, three, row, header, lines, text, circuit}
+use Rattle.circuit.specs.declared.Edition as Declared
+use Rattle.circuit.specs.declared.Edition.TheVariants.{Two, Three}
+use Rattle.circuit.specs.Meaning.{Edition, two, three, edition_of, row, header, lines, text, circuit}
 use Rattle.qasm.specs.Meaning.{Written, refused, accepted, written, Circuits, WriteOutcome}
 use Rattle.circuit_writer.specs.Writing.{Spells, Measures, PhaseIs, MeasureIs}
 use Rattle.circuit_writer.specs.WritingLaws.{size_most}
@@ -105,6 +107,14 @@ module _ (w old : List ℕ) (r : Written) (new : List ℕ) (s : Spells w) where
   put_two n m l f p =
       Rung.passed (λ i h. omega (arith, h.0))
       (Rung.passed inside (Rung.passed (λ i h. f.before i (omega (arith, h.there)) h.is) (answer two p)))
+
+  pub written_three : (d : Declared.Edition) → d ≡ Three → length w ≤ 4096 → PutsCircuit (header three) w old r new
+      → WriteOutcome (edition_of d) w old r new
+  written_three d q l p = subst (λ x. WriteOutcome (edition_of x) w old r new) (sym q) (put_three l p)
+
+  pub written_two : (d : Declared.Edition) (n : ℕ) → d ≡ Two → length w ≤ 4096 → PhaseIs w n → length w ≤ n
+      → PutsCircuit (header two) w old r new → WriteOutcome (edition_of d) w old r new
+  written_two d n q l f m p = subst (λ x. WriteOutcome (edition_of x) w old r new) (sym q) (put_two n m l f p)
 
   -- an edition that has a phase, or a word that has none
   pub put_in : (e : Edition) (n : ℕ) (z : Bool) → z ≡ (row e).has_phase → ((z ≡ false) × (length w ≤ n)) ⊎ (z ≡ true) → length w ≤ 4096
