@@ -12,7 +12,7 @@ use normal_form::Counts;
 use ring::Triple;
 use unitary::DOmegaUnitary;
 
-// Both ways' answers, and whether they are accepted with the same bytes.
+// Both ways' answers, and whether they are accepted with the same bytes: no Option, as the answers are there either way.
 #[derive(Clone, Copy)]
 pub struct Agreement {
     pub yes: bool,
@@ -38,6 +38,7 @@ fn second_way(matrix: Result<DOmegaUnitary, Refusal>, buf: &mut [u8]) -> Result<
     })
 }
 
+// Each answer with its whole buffer: how far its word goes is in the answer alone.
 fn alike(
     a: Result<Counts, Refusal>,
     first: &[u8],

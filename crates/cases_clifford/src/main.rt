@@ -157,6 +157,7 @@ fn show<W: Write>(out: &mut W, q: Clifford) -> io::Result<()> {
     writeln!(out, "{},{},{},{}", q.a, q.b, q.c, q.d)
 }
 
+// No From in clifford: only these cases hand a Clifford in again.
 fn four_of(q: Clifford) -> Four {
     Four {
         a: i32::from(q.a),

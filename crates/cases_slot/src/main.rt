@@ -228,6 +228,7 @@ fn empty_tails<W: Write>(out: &mut W) -> io::Result<()> {
     ht_case(out, b"HT, bytes 4", b"T", 1, &[1, 4, 0, 0, 0, 0])
 }
 
+// Each of these four fixes a record, so that a case is its letters alone.
 fn almost<W: Write>(out: &mut W, letters: &[u8]) -> io::Result<()> {
     text(out, b"4095 HT, ")?;
     ht_case(out, letters, letters, 4095, &[4095, 8191, 0, 0, 0, 0])

@@ -37,6 +37,7 @@ fn of_word<W: Write>(out: &mut W, label: &str, word: &[u8]) -> io::Result<()> {
     matrix(out, answer)
 }
 
+// The four parts one by one, so that a case is a line.
 fn given(k: i64, n: u8, z: ZOmega, w: ZOmega) -> Triple {
     Triple { k, n, z, w }
 }

@@ -1,4 +1,5 @@
 // The letters of a right text put into a buffer, from the right: its first statement is the rightmost letter.
+// A place and no slice: `Before` and `PutsBefore` tell what stands behind the place too.
 #![tactic(auto)]
 
 ghost use Rattle.std.specs.Prelude.{[], ◌∷◌, ◌≤◌, ◌<◌, length};

@@ -1,4 +1,5 @@
 // A text walked: whether it is a circuit or where it stops being one, and how many letters it is read as.
+// A place and no slice from there on: a refusal names the place in the whole text.
 #![tactic(auto)]
 
 ghost use Rattle.std.specs.Prelude.{◌≡◌, ◌&&◌, ◌+◌, ◌≤◌, ◌<◌, eqb, length, get_or, drop};

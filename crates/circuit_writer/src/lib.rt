@@ -1,4 +1,5 @@
 // The writer: a word is measured, and then its lines are put, the rightmost letter's first.
+// A place and no slice: `Written` (crate lent) tells what stands before it too.
 #![tactic(auto)]
 
 ghost use Rattle.std.specs.Prelude.{◌≡◌, ◌∷◌, ◌+◌, ◌≤◌, ◌<◌, length};
@@ -18,7 +19,7 @@ pub struct Measured {
     pub phase: usize,
 }
 
-// The bytes of a letter's line.
+// The bytes of a letter's line. A byte and no enum, as words are lent.
 fn line_size(b: u8) -> Option<usize>
     ensures { SizeIs b result }
 {
@@ -40,6 +41,7 @@ fn first_w(word: &[u8]) -> usize
     word.iter().position(|b| *b == b'W').unwrap_or(word.len())
 }
 
+// At most 4096 letters, asked for and no type: the one caller has just compared the length.
 pub fn measure(word: &[u8]) -> Result<Measured, Refusal>
     requires { length word.now ≤ 4096 }
     ensures { MeasureIs word.now result }

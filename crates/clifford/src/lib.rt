@@ -362,6 +362,7 @@ fn letter_at(b: u8, n: u8) -> Passing
     if n < b { Passing::X } else { Passing::S }
 }
 
+// As `conj2_row`: what its own table was proved to say.
 fn cinv_row(i: u8) -> Clifford
     requires { i < 24 }
     ensures { RowInv i result }
@@ -369,6 +370,7 @@ fn cinv_row(i: u8) -> Clifford
     CINV_TABLE[i as usize]
 }
 
+// As `conj2_row`: what its own table was proved to say.
 fn tconj_row(i: u8) -> Tconj
     requires { i < 6 }
     ensures { RowT i result }
@@ -376,7 +378,7 @@ fn tconj_row(i: u8) -> Tconj
     TCONJ_TABLE[i as usize]
 }
 
-// The numbers brought into their ranges.
+// The numbers brought into their ranges; those of `new` may be below 0, where % is no remainder.
 fn ranged(a: u8, b: u8, c: u8, d: u8) -> Clifford
     ensures { result ≡ reduce a b c d }
 {

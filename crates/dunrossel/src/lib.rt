@@ -1,4 +1,5 @@
-// The library that other programs link: every job, with numbers and slices only.
+// The library that other programs link: every job, with numbers and slices only. A body for each name that C has: what an answer puts and the
+// zeros of a refusal differ in type at each, and one body for all would take both as arguments, with a contract for both.
 #![tactic(auto)]
 
 ghost use Rattle.std.specs.Prelude.{◌≡◌, ◌≤◌, length};

@@ -1,4 +1,4 @@
-// The limits and the refusals by number (docs/SCOPE.md). The mathematics that every contract cites stands in specs/.
+// The limits, and the refusals with their numbers (docs/SCOPE.md). The mathematics that every contract cites stands in specs/.
 #![tactic(auto)]
 
 ghost use Rattle.std.specs.Prelude.{◌≡◌, length};
@@ -14,6 +14,7 @@ pub const LARGEST: i64 = 1073741824;
 // The bytes that are always enough for a synthesised word.
 pub const ENOUGH: usize = 376;
 
+// The numbers that C is handed: 0, and one for each refusal. What is no export has the enum below.
 pub const ACCEPTED: u8 = 0;
 
 const LONG: u8 = 1;
@@ -58,6 +59,7 @@ pub enum Refusal {
 }
 
 impl Refusal {
+    // No From: a refusal is two numbers to C, this one and its place.
     pub fn number(self) -> u8
         ensures { result ≡ number self }
     {

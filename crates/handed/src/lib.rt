@@ -1,4 +1,5 @@
 // What the exports are handed and hand back: numbers taken from arrays, and answers put into them.
+// By functions and no From: neither the arrays nor the answers are types of this crate.
 #![tactic(auto)]
 
 ghost use Rattle.std.specs.Prelude.{◌≡◌};

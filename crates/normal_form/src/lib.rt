@@ -66,7 +66,7 @@ fn read_and_write(
     write(table, items, r, phase, buf)
 }
 
-// Jobs 3 and 5: with the W letters of the tail, or without.
+// Jobs 3 and 5: with the W letters of the tail, or without. A truth value and no closure: all that it chooses is one count (`kept`, crate writing).
 fn answer(word: &[u8], phase: bool, buf: &mut [u8]) -> Result<Counts, Refusal>
     ensures { WordOutcome (Answers phase) word.now buf.old (written result) buf.new }
 {

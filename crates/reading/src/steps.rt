@@ -22,7 +22,8 @@ pub(crate) struct Step {
     pub tail: Tail,
 }
 
-// Where the parts of the table begin. The last row of two letters, which is the identity's, is the first of the syllables.
+// Where the parts of the table begin: one list of bytes, of which `Right` speaks. The last row of two letters, which is the identity's, is the first
+// of the syllables.
 const SYLLABLES: usize = 384;
 
 const AXES: usize = 480;

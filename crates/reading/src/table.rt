@@ -15,7 +15,7 @@ pub const IDENTITY: u8 = 5;
 const LETTERS: usize = 648;
 
 impl Table<'_> {
-    // The number of a letter, which is no enum: the rows of the table go by it.
+    // The number of a letter and no enum: it comes out of the table as a byte and goes in again as a row; an enum made of it would be a match at each letter.
     pub fn number(self, b: u8) -> Option<u8>
         ensures { result ≡ numbered b }
     {

@@ -1,6 +1,7 @@
 // A request's decimal digits.
 ghost use Rattle.std.specs.Prelude.{◌<◌, IfSome};
 
+// No refusal and no bound, as decimal's own has.
 pub fn digit(b: u8) -> Option<u8>
     ensures { IfSome result (λ d. d < 10) }
 {

@@ -167,6 +167,7 @@ fn of_record<W: Write, F: FnOnce(&mut W, Triple) -> io::Result<()>>(
 }
 
 // The payload of 2, 3, 5, Q and G is a word, that of R a circuit's text, that of S and L a slot, that of the others a bench record.
+// The byte is matched here alone: an enum would be a second list of the jobs.
 pub fn answer<W: Write>(out: &mut W, job: u8, payload: &[u8], lent: &mut [u8]) -> io::Result<()> {
     match job {
         b'1' => of_record(out, payload, reduce),

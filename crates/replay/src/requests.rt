@@ -63,6 +63,7 @@ pub fn all<R: Read, W: Write>(
     payload: &mut [u8],
     lent: &mut [u8],
 ) -> io::Result<()> {
+    // At most so many, as a loop must be seen to end, and a stream need not.
     for _ in 0..1000000 {
         if !one(from, out, payload, lent)? {
             break;

@@ -24,7 +24,7 @@ fn rest_of(t: Triple) -> [u64; 6] {
     [t.k, t.w.a, t.z.a, t.z.b, t.z.c, t.z.d].map(large)
 }
 
-// As far as the last that is not 0.
+// As far as the last that is not 0. No `for`: what is left gets shorter at its end.
 fn to_last(digits: &[u8]) -> &[u8] {
     let mut rest = digits;
     while let [front @ .., b'0'] = rest {

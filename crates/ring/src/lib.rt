@@ -233,7 +233,7 @@ impl ZOmega {
         }
     }
 
-    // By omega to the power -m.
+    // By omega to the power -m. Below 4 is asked for and is no type: m is a count of turns and no more.
     pub fn mul_by_omega_inv_power(self, m: u8) -> ZOmega
         requires fact_1 { Small self }
         requires fact_2 { m < 4 }

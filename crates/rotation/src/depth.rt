@@ -7,7 +7,7 @@ ghost use Rattle.rotation.specs.Shared.{TwosIn, NineP, NineQ, Lowered};
 use crate::Rotation;
 use root_two::{Root, Vect};
 
-// How often 2 divides it, and 64 for 0, which any power divides.
+// How often 2 divides it, and 64 for 0, which any power divides; `ntz` of ring has 0 there, as in the Rust.
 fn twos(x: i64) -> u8
     ensures { TwosIn x result }
 {

@@ -32,6 +32,7 @@ fn worked_out(t: Triple) -> Result<Rotation, Refusal>
     ensures worked { IfOk result (λ r. WorkedOut (nat_abs t.k) t.n t.z t.w r) }
 {
     unitary::check(t)?;
+    // By its fields, as in `unitary::reduce`.
     let r = columns(DOmegaUnitary {
         z: t.z,
         w: t.w,

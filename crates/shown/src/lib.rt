@@ -9,6 +9,7 @@ use std::fmt::Display;
 use std::io;
 use std::io::Write;
 
+// By itself, for its promise: `numbers` is proved by it.
 pub fn text<W: Write>(out: &mut W, s: &[u8]) -> io::Result<()>
     ensures { OnOk result (Appends (W.contents out.old) (W.contents out.new) s.now) }
 {

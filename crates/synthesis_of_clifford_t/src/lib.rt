@@ -38,6 +38,7 @@ const BIT_SHIFT: [u8; 16] = [0, 0, 1, 0, 2, 0, 1, 3, 3, 3, 0, 2, 2, 1, 0, 0];
 
 const BIT_COUNT: [u8; 16] = [0, 1, 1, 2, 1, 2, 2, 3, 1, 2, 2, 3, 2, 3, 3, 4];
 
+// A look-up of each table, by a function of its own: each promises what its table is proved to say. A residue is an index, and no type.
 fn bit_shift(residue: usize) -> u8
     requires { residue < 16 }
     ensures { result ≡ bit_shift residue }
@@ -114,6 +115,7 @@ struct Closing {
     tail: Ending,
 }
 
+// A choice by a function of its own, as `sign_of` is.
 fn by_sign(x: i64, i: u8, j: u8) -> u8
     ensures { result ≡ sign_of x i j }
 {
@@ -201,7 +203,7 @@ fn decompose_domega_unitary(t: Reduced, work: &mut [u8]) -> Decomposed
     let mut u = t;
     let mut len: usize = 0;
     let mut steps: usize = 0;
-    // It ends where there is no step: no index is counted to.
+    // No `for`: it ends where there is no step. By `let .. else`, as docs/SCOPE.md has it (Forms).
     loop {
         let Some((m, next)) = reduce_denomexp(u) else {
             break;
@@ -233,6 +235,7 @@ pub fn synthesise(t: Triple, buf: &mut [u8]) -> Result<Spelt, Refusal>
     ensures { SynthesiseOutcome t.k t.n t.z t.w buf.old (synthesised result) buf.new }
 {
     unitary::check(t)?;
+    // By its fields, as in `unitary::reduce`.
     let given = DOmegaUnitary {
         z: t.z,
         w: t.w,

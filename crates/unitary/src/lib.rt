@@ -25,8 +25,8 @@ ghost use Rattle.unitary.specs.Reducing.{Twos, OnceMore};
 use exact::Refusal;
 use ring::{Triple, ZOmega};
 
-// No sizes stand in the type: H leaves coefficients that need not be small, a triple is handed in with any n, and the numbers of a refusal (`none`) are
-// no matrix.
+// No sizes stand in the type: H leaves coefficients that need not be small and an exponent over the limit, a triple is handed in with any n, and
+// the numbers of a refusal (`none`) are no matrix.
 #[derive(Clone, Copy)]
 pub struct DOmegaUnitary {
     pub z: ZOmega,
@@ -58,6 +58,7 @@ fn power_of_two(k: u8) -> i64
 }
 
 // Both sums, each compared in two halves: the eight squares alone could pass 64 signed bits.
+// Not the triple: its k is within the limit here.
 fn is_unitary(k: u8, z: ZOmega, w: ZOmega) -> bool
     requires fact_1 { k ≤ deepest }
     requires fact_2 { InCoefficients (quad z) (quad w) }
@@ -182,6 +183,7 @@ impl DOmegaUnitary {
         t.halved(m).lowered_if()
     }
 
+    // A function for each letter: each promises its own letter's `act`.
     fn mul_by_t_from_left(self) -> DOmegaUnitary
         requires fact_1 { Small self.w }
         requires fact_2 { self.n < 8 }
@@ -209,6 +211,7 @@ impl DOmegaUnitary {
         }
     }
 
+    // docs/DIFFERENCES.md has it by this name; synthesis calls the power.
     pub fn mul_by_t_inv_from_left(self) -> DOmegaUnitary
         requires { (Small self.w) × (self.n < 8) }
         ensures { triple result ≡ mod_eight (turned_back 1 (triple self)) }
@@ -276,6 +279,7 @@ pub fn reduce(t: Triple) -> Result<DOmegaUnitary, Refusal>
     ensures { ReduceOutcome t.k t.n t.z t.w (as_checked result) }
 {
     check(t)?;
+    // By its fields: that k fits eight bits is what `check` has just told, and a conversion of its own would ask for it again.
     let as_given = DOmegaUnitary {
         z: t.z,
         w: t.w,
@@ -287,6 +291,7 @@ pub fn reduce(t: Triple) -> Result<DOmegaUnitary, Refusal>
 
 // ---- words
 
+// A byte and no enum of letters: words are lent as bytes, and a letter is looked at once.
 fn is_letter(g: u8) -> bool
     ensures { Decides (IsLetter g) result }
 {
@@ -307,14 +312,23 @@ impl DOmegaUnitary {
         requires fact_2 { self.k ≤ deepest }
         ensures { Acted (letter_of g) self result }
     {
-        match g {
-            b'H' => self.mul_by_h_from_left().reduce_denomexp(),
-            b'S' => self.mul_by_s_from_left(),
-            b'X' => self.mul_by_x_from_left(),
-            b'W' => self.mul_by_w_from_left(),
-            b'T' => self.mul_by_t_from_left(),
-            _ => self,
+        // Each by a `return`: as the value of a `match` the matrix is made in memory, and a letter takes a quarter longer.
+        if g == b'H' {
+            return self.mul_by_h_from_left().reduce_denomexp();
         }
+        if g == b'S' {
+            return self.mul_by_s_from_left();
+        }
+        if g == b'X' {
+            return self.mul_by_x_from_left();
+        }
+        if g == b'W' {
+            return self.mul_by_w_from_left();
+        }
+        if g == b'T' {
+            return self.mul_by_t_from_left();
+        }
+        self
     }
 }
 

@@ -17,6 +17,7 @@ pub fn view(t: Triple) -> Result<View, Refusal>
     ensures { ViewOutcome t.k t.n t.z t.w (as_answer result) }
 {
     unitary::check(t)?;
+    // By its fields, as in `unitary::reduce`.
     Ok(entries(DOmegaUnitary {
         z: t.z,
         w: t.w,

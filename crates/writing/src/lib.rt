@@ -52,6 +52,7 @@ fn one_if_none(n: usize) -> usize
     if n == 0 { 1 } else { 0 }
 }
 
+// The W letters of a tail, kept or not: the one place where jobs 3 and 5 differ.
 fn kept(phase: bool, w: usize) -> usize
     ensures { result ≡ cond phase w 0 }
 {
@@ -157,7 +158,7 @@ fn second_letter(n: usize) -> u8
     b'T' - 12 * h
 }
 
-// Its first letter, its second and its last, of which some are the same: no branch on the syllable.
+// Its first letter, its second and its last, of which some are the same: no branch on which syllable it is, but for none.
 fn put_syllable(buf: &mut [u8], at: usize, s: Syllable) -> usize
     requires { at + length (syllable_word s) ≤ length buf.old }
     ensures { Put buf.old at (bytes (syllable_word s)) buf.new result }

@@ -13,29 +13,29 @@ reduce_denomexp-requires c =
     let small = h_small c.args.self (search rules) (search rules) _ c.mul_by_h_from_left.ensures in
     record { fact_1 = small.0; fact_2 = small.1; fact_3 = search h_k }
 
-pub returns-in-72 : goal.returns-in-72
-returns-in-72 c = search byte_H
+pub returns-then-g-eq72 : goal.returns-then-g-eq72
+returns-then-g-eq72 c = search byte_H
 
 pub mul_by_s_from_left-requires : goal.mul_by_s_from_left-requires
 mul_by_s_from_left-requires c = record { fact_1 = search good_w; fact_2 = search rules }
 
-pub returns-in-83 : goal.returns-in-83
-returns-in-83 c = search (byte_plain S)
+pub returns-then-g-eq83 : goal.returns-then-g-eq83
+returns-then-g-eq83 c = search (byte_plain S)
 
-pub returns-in-88 : goal.returns-in-88
-returns-in-88 c = search (byte_plain X)
+pub returns-then-g-eq88 : goal.returns-then-g-eq88
+returns-then-g-eq88 c = search (byte_plain X)
 
 pub mul_by_w_from_left-requires : goal.mul_by_w_from_left-requires
 mul_by_w_from_left-requires c = record { fact_1 = search good_z; fact_2 = search good_w; fact_3 = search rules }
 
-pub returns-in-87 : goal.returns-in-87
-returns-in-87 c = search (byte_plain W)
+pub returns-then-g-eq87 : goal.returns-then-g-eq87
+returns-then-g-eq87 c = search (byte_plain W)
 
 pub mul_by_t_from_left-requires : goal.mul_by_t_from_left-requires
 mul_by_t_from_left-requires c = record { fact_1 = search good_w; fact_2 = search rules }
 
-pub returns-in-84 : goal.returns-in-84
-returns-in-84 c = search (byte_plain T')
+pub returns-then-g-eq84 : goal.returns-then-g-eq84
+returns-then-g-eq84 c = search (byte_plain T')
 
-pub returns-in_default : goal.returns-in_default
-returns-in_default c = search byte_none
+pub returns : goal.returns
+returns c = search byte_none
