@@ -145,12 +145,7 @@ pub fn put_steps(answer: Result<Spelt, Refusal>, out: &mut [u64; 4]) -> u8
 {
     match answer {
         Ok(spelt) => {
-            *out = [
-                0,
-                spelt.bytes as u64,
-                spelt.tees as u64,
-                spelt.steps as u64,
-            ];
+            *out = [0, spelt.bytes as u64, spelt.tees as u64, spelt.steps as u64];
             exact::ACCEPTED
         }
         Err(refusal) => {
