@@ -5,4 +5,5 @@ use Rattle.dunrossel.proofs.dunrossel_synthesise_steps.Goals as goal
 
 pub returns : goal.returns
 returns c =
-    synthesises_as _ _ c.args.zw.now c.ranges.k _ c.triple_of-t.ensures steps_of _ _ _ _ _ c.synthesise-counted.ensures c.put_steps.ensures.refusal c.put_steps.ensures.steps
+    synthesises_as _ _ c.args.zw.now c.ranges.k _ c.triple_of-t.ensures steps_of _ _ _ _ _ c.synthesise-counted.ensures
+    c.put_steps.ensures.refusal c.put_steps.ensures.steps
