@@ -1,15 +1,18 @@
 // Normal words: jobs 3 and 5.
 #![tactic(auto)]
 
-ghost use Rattle.std.specs.Prelude.{◌≡◌, ◌≤◌, length};
-ghost use Rattle.reading.specs.Held.{Blank, Readable};
+ghost use Rattle.std.specs.Prelude.{◌≡◌, cond, ◌+◌, ◌≤◌, length};
+ghost use Rattle.reading.specs.Held.{Blank};
+ghost use Rattle.reading.specs.Texts.{ReadableText};
+ghost use Rattle.writing.specs.Endings.{end_size};
 ghost use Rattle.normal_form.specs.Meaning.{written, WordOutcome, NormaliseOutcome, PhaseFreeOutcome};
-ghost use Rattle.normal_form.specs.Answers.{Answers, WritesReading};
+ghost use Rattle.normal_form.specs.Answers.{Answers, WritesText};
 
 use exact::Refusal;
 use reading::table::Table;
-use reading::{EMPTY, Reading};
+use reading::{EMPTY, Text};
 use table::TABLE;
+use writing::Ending;
 
 mod table;
 
@@ -25,28 +28,41 @@ pub fn reader_table() -> Table<'static> {
     Table { bytes: &TABLE }
 }
 
-// The word of a reading, if there is room for it: its length and its T letters are known before a byte is written.
+// How many bytes are written for a text: its own, or those that are left without the W letters of its tail.
+fn bytes_of(r: Text, e: Ending, phase: bool) -> usize
+    requires { (r.reading.bytes ≤ 12288) × (end_size e ≤ 64) }
+    ensures { result ≡ cond phase r.bytes (r.reading.bytes + end_size e) }
+{
+    if phase {
+        r.bytes
+    } else {
+        r.reading.bytes + e.size()
+    }
+}
+
+// The word of a text, if there is room for it: its length and its T letters are known before a byte is written.
 fn write(
     table: Table,
     items: &[u8],
-    r: Reading,
+    r: Text,
     phase: bool,
     buf: &mut [u8],
 ) -> Result<Counts, Refusal>
-    requires readable { Readable items.now r }
-    requires count_few { r.count ≤ 4096 }
-    ensures { WritesReading phase items.now r buf.old (written result) buf.new }
+    requires readable { ReadableText items.now r }
+    requires count_few { r.reading.count ≤ 4096 }
+    ensures { WritesText phase items.now r buf.old (written result) buf.new }
 {
-    let e = writing::ending_of(table, r.tail, phase);
-    let bytes = r.bytes + e.size();
+    let reading = r.reading;
+    let e = writing::ending_of(table, reading.tail, phase);
+    let bytes = bytes_of(r, e, phase);
     if bytes > buf.len() {
         return Err(Refusal::Room);
     }
-    let at = writing::put_syllables(buf, &items[..r.count]);
+    let at = writing::put_syllables(buf, &items[..reading.count]);
     writing::put_ending(buf, at, e);
     Ok(Counts {
         bytes,
-        tees: r.count,
+        tees: reading.count,
     })
 }
 

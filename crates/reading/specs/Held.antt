@@ -289,12 +289,22 @@ cancel_some {old} {r} {rest} {tail} {new} {n} f g p = record { step = λ st h. g
 abbrev pub by_kind : ℕ → Clifford → State → State
 by_kind kind q st = after kind q st.lead st.stack
 
+-- what is pushed has its place: EMPTY too
+pub record Room (items : List ℕ) (r : Reading) (kind : ℕ) : Type 0 where
+  pub some : 0 < length items
+  pub few : r.count ≤ 4096
+  pub kinds : kind ≤ 3
+  pub place : (kind ≡ 1 → ⊥) → (r.count < length items) × (r.count < 4096)
+
 -- a syllable that is added has its place
 pub record Placed (items : List ℕ) (r : Reading) (kind : ℕ) : Type 0 where
   pub some : 0 < length items
   pub few : r.count ≤ 4096
   pub kinds : kind ≤ 3
   pub place : 1 < kind → (r.count < length items) × (r.count < 4096)
+
+pub placed_room : {items : List ℕ} {r : Reading} {kind : ℕ} → (kind ≡ 0 → ⊥) → Placed items r kind → Room items r kind
+placed_room f h = record { some = h.some; few = h.few; kinds = h.kinds; place = λ g. h.place (omega (arith, f, g)) }
 
 module _ {old : List ℕ} {r : Reading} (rest : Tail) where
   pub keeps : {kind : ℕ} → kind ≡ 0 → Fits rest
@@ -308,10 +318,13 @@ module _ {old : List ℕ} {r : Reading} (rest : Tail) where
     pub cancels : kind ≡ 1 → Steps (cancelled (tail_of rest)) old r new n → Steps (by_kind kind (tail_of rest)) old r new n
     cancels e p = record { step = λ st h. rw e (p.step st h) }
 
-    pub puts : (kind ≡ 1 → ⊥) → kind ≤ 3 → r.count < length old → Fits rest → Pushed old r kind (kind / 2) rest new n
+    pub puts : (kind ≡ 1 → ⊥) → Room old r kind → Fits rest → Pushed old r kind (kind / 2) rest new n
         → Steps (by_kind kind (tail_of rest)) old r new n
-    puts f c k w p = record { step = go kind f c p }
+    puts f room w p = record { step = go kind f room.kinds p }
       where
+        k : r.count < length old
+        k = (room.place f).0
+
         go : (kind : ℕ) → (kind ≡ 1 → ⊥) → kind ≤ 3 → Pushed old r kind (kind / 2) rest new n → (st : State) → Holds old r st
             → Holds new n (by_kind kind (tail_of rest) st)
         go zero f c p st h = kept_holds k w h p
@@ -320,24 +333,20 @@ module _ {old : List ℕ} {r : Reading} (rest : Tail) where
         go (suc (suc (suc zero))) f c p st h = push_holds k w normal.SHT h p
         go (suc (suc (suc (suc j)))) f c p st h = absurd (omega arith)
 
-    pub puts_placed : (kind ≡ 0 → ⊥) → (kind ≡ 1 → ⊥) → Placed old r kind → Fits rest → Pushed old r kind (kind / 2) rest new n
-        → Steps (by_kind kind (tail_of rest)) old r new n
-    puts_placed f g h = puts g h.kinds (h.place (omega (arith, f, g))).0
-
 -- what it asks of the functions that make it
-module _ {items : List ℕ} {r : Reading} {kind : ℕ} (s : Readable items r) (h : Placed items r kind) where
+module _ {items : List ℕ} {r : Reading} {kind : ℕ} (s : Readable items r) (h : Room items r kind) where
   pub count_room : r.count ≤ length items
   count_room = count_within s.holds
 
   pub bytes_room : r.bytes ≤ 12288
   bytes_room = bytes_most s.holds h.few
 
-module _ {items : List ℕ} {r : Reading} {kind : ℕ} (h : Placed items r kind) (f : kind ≡ 0 → ⊥) (g : kind ≡ 1 → ⊥) where
+module _ {items : List ℕ} {r : Reading} {kind : ℕ} (h : Room items r kind) (f : kind ≡ 1 → ⊥) where
   pub place_there : r.count < length items
-  place_there = (h.place (omega (arith, f, g))).0
+  place_there = (h.place f).0
 
   pub place_few : r.count < 4096
-  place_few = (h.place (omega (arith, f, g))).1
+  place_few = (h.place f).1
 
   pub one_most : kind / 2 ≤ 1
   one_most = omega (arith, h.kinds)
@@ -361,13 +370,6 @@ module _ {old : List ℕ} {r : Reading} {l m : Letter} {s : Step} (w : Stepped l
 
     pub follows : Steps (by_kind s.kind (tail_of s.tail)) old r new n → Steps (pair l m) old r new n
     follows p = record { step = λ st h. changed st h (p.step st h) }
-
-    pub meets : s.kind ≡ 1 → Steps (cancelled (tail_of s.tail)) old r new n → Steps (pair l m) old r new n
-    meets e p = follows (cancels s.tail e p)
-
-    pub adds : (s.kind ≡ 1 → ⊥) → r.count < length old → Pushed old r s.kind (s.kind / 2) s.tail new n
-        → Steps (pair l m) old r new n
-    adds f k p = follows (puts s.tail f (kind_most w) k w.fits p)
 
 -- ---- a word
 pub count_few : (items : List ℕ) (r : Reading) (w : List ℕ) (i : ℕ)

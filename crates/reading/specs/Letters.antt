@@ -1,4 +1,4 @@
--- Whether a byte is a letter, by its number, and what a word is read as: a reading, or the first byte that is no letter. Assumes nothing.
+-- Whether a byte is a letter, by its number, and what a word is read as: a text, or the first byte that is no letter. Assumes nothing.
 use Rattle.std.specs.Prelude.{◌≡◌, refl, Bool, true, false, cond, List, ℕ, ◌<◌, ◌≤◌, eqb, length, get_or, Option, Some, None, Result, Ok, Err}
 use Rattle.std.proofs.Common.{sym, ◌∙◌, ap, arith, eqb-true}
 use Rattle.std.proofs.lemmas.Bool.{eqb-false}
@@ -11,10 +11,10 @@ use Rattle.exact.specs.Outcomes.Enums.{Says}
 use Rattle.exact.specs.Meaning.Refusals.{letter}
 use Rattle.exact.specs.Cases.Letters.{letter_of, letters_of, Inside}
 use Rattle.exact.proofs.Cases.Letters.{letter_back, is_letter}
-use Rattle.reading.specs.declared.Reading.{Reading}
+use Rattle.reading.specs.declared.Text.{Text}
 use Rattle.reading.specs.Readings.{start, run}
 use Rattle.reading.specs.Steps.{letter_number, letter_at, letter_at_is, number_few, number_few_of, number_of, numbered}
-use Rattle.reading.specs.Held.{Holds}
+use Rattle.reading.specs.Texts.{HoldsText}
 
 -- ---- a byte, by its number
 module _ (b n : ℕ) (e : n ≡ number_of b) where
@@ -81,15 +81,15 @@ module _ (b : ℕ) where
           let some : ◌≡◌ {A = Option ℕ} (Some (number_of b)) None = sym (ap (λ (t : Bool). cond t None (Some (number_of b))) f) ∙ e in cc
 
 -- ---- a word: each case by its refusal and place
-abbrev pub refusal_of : Result Reading Refusal → ℕ × ℕ
+abbrev pub refusal_of : Result Text Refusal → ℕ × ℕ
 refusal_of (Ok r) = (Limits.no_refusal, 0)
 refusal_of (Err e) = (number e, place e)
 
-abbrev pub ReadAs : List ℕ → List ℕ → Result Reading Refusal → Type 0
-ReadAs w items (Ok r) = Inside w (length w) × Holds items r (run start (letters_of w))
+abbrev pub ReadAs : List ℕ → List ℕ → Result Text Refusal → Type 0
+ReadAs w items (Ok r) = Inside w (length w) × HoldsText items r (run start (letters_of w))
 ReadAs w items (Err e) = ⊥
 
-abbrev pub Reads : List ℕ → List ℕ → Result Reading Refusal → Type 0
+abbrev pub Reads : List ℕ → List ℕ → Result Text Refusal → Type 0
 Reads w items r = Says (refusal_of r) (letter w) (ReadAs w items r)
 
 -- no refusal but that of a letter

@@ -9,9 +9,9 @@ use Rattle.clifford.specs.declared.Clifford.{Clifford}
 use Rattle.reading.specs.declared.Text.{Text}
 use Rattle.reading.specs.declared.Reading.{Reading}
 use Rattle.reading.specs.declared.steps.Step.{Step}
-use Rattle.reading.specs.Readings.{State, read, size_of, tail_size, text_size, text_size_lem}
+use Rattle.reading.specs.Readings.{State, read, read_size, size_of, tail_size, text_size, text_size_lem}
 use Rattle.reading.specs.Steps.{Fits, tail_of, Stepped, SizeIs}
-use Rattle.reading.specs.Held.{Holds, Readable, Steps, Placed, count_is, count_within, bytes_few, by_kind, kind_most, pair_is, follows}
+use Rattle.reading.specs.Held.{Holds, Readable, Steps, Room, Placed, count_is, count_within, bytes_few, by_kind, kind_most, pair, pair_is, follows}
 
 -- the bytes of syllables and of what is written for the tail behind them
 abbrev pub whole_of : Reading → Text
@@ -57,6 +57,20 @@ pub moved_few : {f : State → State} {old : List ℕ} {r : Reading} {new : List
 moved_few e l h p =
     let k = p.step h.st h.holds in
     record { fits = k.fits; few = omega (arith, bytes_few k, count_within k) }
+
+-- ---- two letters, where each has its place
+module _ {l m : Letter} {old : List ℕ} {r : Reading} {s : Step} (w : Stepped l m r.tail s) where
+  pub pair_room : (r.count < length old) × (r.count < 4096) → Room old r s.kind
+  pair_room p = record { some = omega (arith, p.0); few = omega (arith, p.1); kinds = kind_most w; place = λ f. p }
+
+  pub pair_few : {new : List ℕ} {t : Reading} → Steps (by_kind s.kind (tail_of s.tail)) old r new t → r.count < 4096 → Readable old r → Few t
+  pair_few p k h =
+      let now = (follows w p).step h.st h.holds in
+      record { fits = now.fits; few = omega (arith, bytes_few now, count_is now, count_is h.holds, read_size l h.st, read_size m (read l h.st)) }
+
+pub pair_text : {l m : Letter} {old : List ℕ} {r : Text} {s : Step} {new : List ℕ} {t : Reading} {n : Text} → Stepped l m r.reading.tail s
+    → Steps (by_kind s.kind (tail_of s.tail)) old r.reading new t → n ≡ whole_of t → StepsText (pair l m) old r new n
+pair_text w p e = whole_steps (follows w p) e
 
 -- ---- a letter
 -- no place is left for a syllable, or the letter is read

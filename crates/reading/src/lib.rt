@@ -6,8 +6,8 @@ ghost use Rattle.exact.specs.Meaning.Outcome.{Decides};
 ghost use Rattle.reading.specs.Readings.{read};
 ghost use Rattle.reading.specs.Steps.{letter_at, Fits, tail_of};
 ghost use Rattle.reading.specs.Syllables.{syllable_of, syllable_number};
-ghost use Rattle.reading.specs.Held.{Blank, Readable, Steps, Pushed, Popped, Placed, cancelled, by_kind, pair};
-ghost use Rattle.reading.specs.Texts.{whole_of, Few, ReadableText, AddsLetter};
+ghost use Rattle.reading.specs.Held.{Blank, Readable, Steps, Pushed, Popped, Room, Placed, cancelled, by_kind, pair};
+ghost use Rattle.reading.specs.Texts.{whole_of, Few, ReadableText, StepsText, AddsLetter};
 ghost use Rattle.reading.specs.Letters.{Reads, NumberAt};
 
 use crate::steps::Tail;
@@ -39,7 +39,7 @@ pub struct Reading {
     pub tail: Tail,
 }
 
-// The same, and the bytes of the text of it all, in which an empty tail is one I.
+// The running record: the same, and the bytes of the text of it all, in which an empty tail is one I. Between two letters it is this that is kept.
 #[derive(Clone, Copy)]
 pub struct Text {
     pub reading: Reading,
@@ -125,24 +125,36 @@ fn cancel(table: Table, items: &mut [u8], r: Reading, rest: Tail) -> Reading
     pop(items, r, last, tail)
 }
 
-// Two letters more, by their numbers.
-fn append_gates(table: Table, items: &mut [u8], r: Reading, first: u8, second: u8) -> Reading
+// A step's change, where what is pushed has its place: EMPTY is pushed too, which needs no branch.
+fn put(table: Table, items: &mut [u8], r: Reading, kind: u8, rest: Tail) -> Reading
     requires readable { Readable items.old r }
-    requires place { (r.count < length items.old) × (r.count < 4096) }
-    requires letters { (first < 6) × (second < 6) }
-    ensures { Steps (pair (letter_at first) (letter_at second)) items.old r items.new result }
+    requires room { Room items.old r kind }
+    requires rest_fits { Fits rest }
+    ensures { Steps (by_kind kind (tail_of rest)) items.old r items.new result }
 {
-    let tail = r.tail;
-    let step = tail.step(table, first, second);
-    let kind = step.kind;
-    let rest = step.tail;
     if kind == 1 {
         return cancel(table, items, r, rest);
     }
     push(items, r, kind, (kind / 2) as usize, rest)
 }
 
-// A step's change, where a syllable that is added has its place.
+// Two letters more, by their numbers.
+fn append_gates(table: Table, items: &mut [u8], r: Text, first: u8, second: u8) -> Text
+    requires readable { ReadableText items.old r }
+    requires place { (r.reading.count < length items.old) × (r.reading.count < 4096) }
+    requires letters { (first < 6) × (second < 6) }
+    ensures { StepsText (pair (letter_at first) (letter_at second)) items.old r items.new result }
+{
+    let reading = r.reading;
+    let tail = reading.tail;
+    let step = tail.step(table, first, second);
+    let kind = step.kind;
+    let rest = step.tail;
+    let next = put(table, items, reading, kind, rest);
+    next.whole(table)
+}
+
+// A step's change, where a syllable that is added has its place, and nothing else needs one.
 fn change(table: Table, items: &mut [u8], r: Reading, kind: u8, rest: Tail) -> Reading
     requires readable { Readable items.old r }
     requires placed { Placed items.old r kind }
@@ -156,10 +168,7 @@ fn change(table: Table, items: &mut [u8], r: Reading, kind: u8, rest: Tail) -> R
             tail: rest,
         };
     }
-    if kind == 1 {
-        return cancel(table, items, r, rest);
-    }
-    push(items, r, kind, (kind / 2) as usize, rest)
+    put(table, items, r, kind, rest)
 }
 
 // Whether a change by this kind needs a place, and there is none.
@@ -196,16 +205,19 @@ fn number_at(table: Table, word: &[u8], at: usize) -> Result<u8, Refusal>
     table.number(word[at]).ok_or(Refusal::Letter(at))
 }
 
-// The reading of a word, in an array that is empty, with a place for each letter: two letters at a time, and a last one beside I.
-pub fn read_word(table: Table, items: &mut [u8], word: &[u8]) -> Result<Reading, Refusal>
+// The text of a word, in an array that is empty, with a place for each letter: two letters at a time, and a last one beside I.
+pub fn read_word(table: Table, items: &mut [u8], word: &[u8]) -> Result<Text, Refusal>
     requires blank { Blank items.old }
     requires places { (length word.now ≤ 4096) × (length word.now ≤ length items.old) }
     ensures { Reads word.now items.new result }
 {
-    let mut r = Reading {
-        count: 0,
-        bytes: 0,
-        tail: Tail { code: 0, phase: 0 },
+    let mut r = Text {
+        reading: Reading {
+            count: 0,
+            bytes: 0,
+            tail: Tail { code: 0, phase: 0 },
+        },
+        bytes: 1,
     };
     let pairs = word.len() / 2;
     for i in 0..pairs {

@@ -1,15 +1,12 @@
 -- `reading::append_gates` meets its contract. Assumes nothing.
-use native.Mathlib.Omega.{arith}
-use borrow.Author.Rules.{rules}
-use Rattle.reading.specs.Held.{bytes_most, kind_most, meets, adds}
+use Rattle.reading.specs.Texts.{readable_in, pair_room, pair_few, pair_text}
 use Rattle.reading.proofs.append_gates.Goals as goal
 
-pub returns-then-kind-eq1 : goal.returns-then-kind-eq1
-returns-then-kind-eq1 c = search meets
+pub put-next-requires : goal.put-next-requires
+put-next-requires c = search (readable_in, pair_room)
 
-pub push-requires : goal.push-requires
-push-requires c =
-    (search rules, search rules, bytes_most c.requires.readable.holds (omega arith), omega (arith, kind_most c.step-step.ensures))
+pub whole-requires : goal.whole-requires
+whole-requires c = search (readable_in, pair_few)
 
 pub returns : goal.returns
-returns c = search adds
+returns c = search pair_text

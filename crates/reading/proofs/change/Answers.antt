@@ -1,18 +1,9 @@
 -- `reading::change` meets its contract. Assumes nothing.
-use Rattle.reading.specs.Held.{keeps, cancels, puts_placed, count_room, bytes_room, place_there, place_few, one_most}
+use Rattle.reading.specs.Held.{keeps, placed_room}
 use Rattle.reading.proofs.change.Goals as goal
 
 pub returns-then-kind-eq0 : goal.returns-then-kind-eq0
 returns-then-kind-eq0 c = search keeps
 
-pub cancel-requires : goal.cancel-requires
-cancel-requires c = search count_room
-
-pub returns-then-kind-eq1 : goal.returns-then-kind-eq1
-returns-then-kind-eq1 c = search cancels
-
-pub push-requires : goal.push-requires
-push-requires c = search (bytes_room, place_there, place_few, one_most)
-
-pub returns : goal.returns
-returns c = search puts_placed
+pub put-requires : goal.put-requires
+put-requires c = search placed_room
