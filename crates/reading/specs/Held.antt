@@ -296,15 +296,9 @@ pub record Room (items : List ℕ) (r : Reading) (kind : ℕ) : Type 0 where
   pub kinds : kind ≤ 3
   pub place : (kind ≡ 1 → ⊥) → (r.count < length items) × (r.count < 4096)
 
--- a syllable that is added has its place
-pub record Placed (items : List ℕ) (r : Reading) (kind : ℕ) : Type 0 where
-  pub some : 0 < length items
-  pub few : r.count ≤ 4096
-  pub kinds : kind ≤ 3
-  pub place : 1 < kind → (r.count < length items) × (r.count < 4096)
-
-pub placed_room : {items : List ℕ} {r : Reading} {kind : ℕ} → (kind ≡ 0 → ⊥) → Placed items r kind → Room items r kind
-placed_room f h = record { some = h.some; few = h.few; kinds = h.kinds; place = λ g. h.place (omega (arith, f, g)) }
+-- where there is a change at all
+abbrev pub Placed : List ℕ → Reading → ℕ → Type 0
+Placed items r kind = (kind ≡ 0 → ⊥) → Room items r kind
 
 module _ {old : List ℕ} {r : Reading} (rest : Tail) where
   pub keeps : {kind : ℕ} → kind ≡ 0 → Fits rest
