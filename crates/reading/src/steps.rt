@@ -44,7 +44,7 @@ fn axis_at(a: usize) -> Axis
 }
 
 impl Tail {
-    // As an entry of the table has it, and a phase more.
+    // As an entry of the table has it, and a phase more. Summed as a byte: as a longer number it takes an instruction more at each two letters.
     fn moved(self, entry: u8, more: u8) -> Tail
         requires fact_1 { Fits self }
         requires fact_2 { more < 8 }
@@ -52,7 +52,7 @@ impl Tail {
     {
         Tail {
             code: (entry % 32) as usize,
-            phase: (self.phase + (entry / 32) as usize + more as usize) % 8,
+            phase: ((self.phase as u8 + entry / 32 + more) % 8) as usize,
         }
     }
 
