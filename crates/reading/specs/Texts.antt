@@ -113,12 +113,12 @@ module _ {l : Letter} {old : List ℕ} {r : Text} {s : Step} (w : Stepped l I r.
       let apart : 1 < s.kind → (r.reading.count ≡ length old → ⊥) = λ k q. d.no e (k, q) in
       let place : 1 < s.kind → r.reading.count < length old = λ k. omega (arith, apart k, within) in
       λ n.
-          record {
-            some = omega arith;
-            few = omega arith;
-            kinds = kind_most w;
-            place = λ g. let k : 1 < s.kind = omega (arith, n, g) in (place k, omega (arith, place k));
-          }
+      record {
+        some = omega arith;
+        few = omega arith;
+        kinds = kind_most w;
+        place = λ g. let k : 1 < s.kind = omega (arith, n, g) in (place k, omega (arith, place k));
+      }
 
   pub added : {new : List ℕ} {t : Reading} {n : Text} → Steps (by_kind s.kind (tail_of s.tail)) old r.reading new t → n ≡ whole_of t
       → AddsLetter l old r new (Ok n)
