@@ -46,7 +46,7 @@ answers_single false = drops_single
 spelled_answer : (phase : Bool) (w : List ℕ) → Inside w (length w) → Spelled (Answers phase) w (text_of phase (run start (letters_of w)))
 spelled_answer phase w f = record { letters = letters_of w; spelled = bytes_back w f; holds = answers phase (letters_of w) }
 
--- ---- what is written for a reading: its text, if there is room for it
+-- ---- what is written for a text, if there is room for it
 pub record WritesText (phase : Bool) (items : List ℕ) (r : Text) (old : List ℕ) (n : Written) (new : List ℕ) : Type 0 where
   pub writes : (st : State) → HoldsText items r st → RoomOutcome (λ v. v ≡ text_of phase st) old n new
 

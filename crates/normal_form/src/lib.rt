@@ -28,7 +28,7 @@ pub fn reader_table() -> Table<'static> {
     Table { bytes: &TABLE }
 }
 
-// How many bytes are written for a text: its own, or those that are left without the W letters of its tail.
+// How many bytes are written for a text: its own, or those of its syllables and of its tail without W, one I where that is nothing.
 fn bytes_of(r: Text, e: Ending, phase: bool) -> usize
     requires { (r.reading.bytes ≤ 12288) × (end_size e ≤ 64) }
     ensures { result ≡ cond phase r.bytes (r.reading.bytes + end_size e) }
@@ -82,7 +82,7 @@ fn read_and_write(
     write(table, items, r, phase, buf)
 }
 
-// Jobs 3 and 5: with the W letters of the tail, or without. A truth value and no closure: all that it chooses is one count (`kept`, crate writing).
+// Jobs 3 and 5: with the W letters of the tail, or without. A truth value and no closure: all that it chooses is two counts (`kept`, crate writing).
 fn answer(word: &[u8], phase: bool, buf: &mut [u8]) -> Result<Counts, Refusal>
     ensures { WordOutcome (Answers phase) word.now buf.old (written result) buf.new }
 {

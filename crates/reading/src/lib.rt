@@ -39,7 +39,7 @@ pub struct Reading {
     pub tail: Tail,
 }
 
-// The running record: the same, and the bytes of the text of it all, in which an empty tail is one I. Between two letters it is this that is kept.
+// The running record: the same, and the bytes of the text of it all, in which an empty tail is one I. It is what one step hands to the next.
 #[derive(Clone, Copy)]
 pub struct Text {
     pub reading: Reading,

@@ -15,7 +15,7 @@ pub record Named (c : ℕ) : Type 0 where
   pub s : Syllable
   pub is : c ≡ syllable_number (named s)
 
--- ---- a reading that stands in a record
+-- ---- a text that stands in a record
 pub record Standing (r : Slot) (x : Text) : Type 0 where
   pub st : State
   pub ranged : Ranged st.q

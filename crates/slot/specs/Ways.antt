@@ -11,7 +11,7 @@ abbrev pub MoreOutcome : ℕ → Slot → Left → Type 0
 MoreOutcome number r =
     Outcome (λ n p. left (refused n) r) (Extended (byte (letter_at number)) r) (full (byte (letter_at number)) r then none)
 
--- a reading's numbers
+-- a text's numbers
 abbrev pub six : Text → List ℕ
 six x =
     x.reading.count ∷ x.bytes ∷ x.reading.tail.code / 8 ∷ x.reading.tail.code / 4 % 2 ∷ x.reading.tail.code % 4 ∷ x.reading.tail.phase ∷ []

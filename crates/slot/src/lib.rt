@@ -14,7 +14,7 @@ use reading::table::Table;
 
 mod told;
 
-// A reading's numbers as they are lent.
+// A text's numbers as they are lent.
 fn put_rest(r: Text, rest: &mut [u64; 6])
     ensures { rest.new ≡ six r }
 {

@@ -56,7 +56,7 @@ fn behind(places: &[u8]) -> bool
     empty
 }
 
-// The reading of numbers in their ranges, its syllables having so many letters.
+// The text of numbers in their ranges, its syllables having so many letters.
 fn reading_in(table: Table, letters: usize, rest: &[u64; 6]) -> Text
     requires ranges { Ranges rest.now }
     requires few { Few (stack_in rest.now letters) }

@@ -52,7 +52,7 @@ fn one_if_none(n: usize) -> usize
     if n == 0 { 1 } else { 0 }
 }
 
-// The W letters of a tail, kept or not: the one place where jobs 3 and 5 differ.
+// The W letters of a tail, kept or not: the one place where jobs 3 and 5 write other letters.
 fn kept(phase: bool, w: usize) -> usize
     ensures { result ≡ cond phase w 0 }
 {
