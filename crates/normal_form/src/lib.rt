@@ -82,7 +82,7 @@ fn read_and_write(
     write(table, items, r, phase, buf)
 }
 
-// Jobs 3 and 5: with the W letters of the tail, or without. A truth value and no closure: all that it chooses is two counts (`kept`, crate writing).
+// Jobs 3 and 5: with the W letters of the tail, or without. A truth value and no closure: it chooses two counts (`kept`, `bytes_of`).
 fn answer(word: &[u8], phase: bool, buf: &mut [u8]) -> Result<Counts, Refusal>
     ensures { WordOutcome (Answers phase) word.now buf.old (written result) buf.new }
 {
