@@ -16,7 +16,7 @@ use Rattle.clifford.specs.Cliffords.{split_c}
 use Rattle.reading.specs.declared.Reading.{Reading}
 use Rattle.reading.specs.declared.Text.{Text}
 use Rattle.reading.specs.Readings.{State, prefix, prefix_tees, start, run, shape, normal, phase_free, normal_of, text_size_lem}
-use Rattle.reading.specs.Held.{Holds, count_is, count_few, bytes_most}
+use Rattle.reading.specs.Held.{Holds, count_is, count_few, letters_most}
 use Rattle.reading.specs.Steps.{tail_of}
 use Rattle.reading.specs.Texts.{HoldsText, ReadableText}
 use Rattle.reading.specs.Letters.{Reads, letter_refused}
@@ -54,8 +54,8 @@ pub record WritesText (phase : Bool) (items : List ℕ) (r : Text) (old : List �
 abbrev pub held_bytes : List ℕ → Reading → List ℕ
 held_bytes items r = bytes (codes_word (take r.count items))
 
-held_length : {items : List ℕ} {r : Reading} {st : State} → Holds items r st → length (held_bytes items r) ≡ r.bytes
-held_length {items} {r} h = bytes_length (codes_word (take r.count items)) ∙ ap length (held_word h) ∙ sym h.bytes_is
+held_length : {items : List ℕ} {r : Reading} {st : State} → Holds items r st → length (held_bytes items r) ≡ r.letters
+held_length {items} {r} h = bytes_length (codes_word (take r.count items)) ∙ ap length (held_word h) ∙ sym h.letters_is
 
 -- what is handed back for n bytes
 abbrev accepted : Text → ℕ → Written
@@ -65,21 +65,21 @@ accepted r n = record { refusal = no_refusal; place = 0; bytes = n; tees = r.rea
 bytes_parted : (phase : Bool) {items : List ℕ} {r : Text} {st : State} {e : Ending} {n : ℕ}
     → HoldsText items r st
     → Ended phase (tail_of r.reading.tail) e
-    → n ≡ cond phase r.bytes (r.reading.bytes + end_size e)
-    → n ≡ r.reading.bytes + end_size e
+    → n ≡ cond phase r.bytes (r.reading.letters + end_size e)
+    → n ≡ r.reading.letters + end_size e
 bytes_parted false h k f = f
 bytes_parted true {st = st} h k f =
     f
     ∙ h.bytes_is
     ∙ text_size_lem st
-    ∙ ap₂ (λ x y. x + y) (sym h.holds.bytes_is)
+    ∙ ap₂ (λ x y. x + y) (sym h.holds.letters_is)
     (ap length (sym (end_whole true (split_c st.q)))
     ∙ end_length (ending_of true st.q)
     ∙ ap end_size (ap (ending_of true) (sym h.holds.tail_is) ∙ sym k.is))
 
 -- e is the ending, and n the bytes that are counted
 module _ (phase : Bool) (items : List ℕ) (r : Text) (e : Ending) (n : ℕ) (k : Ended phase (tail_of r.reading.tail) e)
-    (f : n ≡ cond phase r.bytes (r.reading.bytes + end_size e)) where
+    (f : n ≡ cond phase r.bytes (r.reading.letters + end_size e)) where
   module _ {st : State} (h : HoldsText items r st) where
     text_bytes : held_bytes items r.reading ++ bytes (end_word e) ≡ bytes (text_of phase st)
     text_bytes =
@@ -135,8 +135,8 @@ module _ (phase : Bool) (items : List ℕ) (r : Text) (e : Ending) (n : ℕ) (k 
     ending_room mid at m p = omega (arith, held_length h.holds.holds, p.next, bytes_parted phase h.holds k f)
 
 pub parts_few : {phase : Bool} {items : List ℕ} {r : Text} {e : Ending} → ReadableText items r → r.reading.count ≤ 4096
-    → Ended phase (tail_of r.reading.tail) e → (r.reading.bytes ≤ 12288) × (end_size e ≤ 64)
-parts_few h l k = (bytes_most h.holds.holds l, k.few)
+    → Ended phase (tail_of r.reading.tail) e → (r.reading.letters ≤ 12288) × (end_size e ≤ 64)
+parts_few h l k = (letters_most h.holds.holds l, k.few)
 
 -- ---- the whole: x is what the word is read as
 module _ (w items : List ℕ) (x : Result Text Refusal) (l : length w ≤ 4096) (s : Reads w items x) where

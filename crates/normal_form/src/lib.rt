@@ -30,13 +30,13 @@ pub fn reader_table() -> Table<'static> {
 
 // How many bytes are written for a text: its own, or those of its syllables and of its tail without W, one I where that is nothing.
 fn bytes_of(r: Text, e: Ending, phase: bool) -> usize
-    requires { (r.reading.bytes ≤ 12288) × (end_size e ≤ 64) }
-    ensures { result ≡ cond phase r.bytes (r.reading.bytes + end_size e) }
+    requires { (r.reading.letters ≤ 12288) × (end_size e ≤ 64) }
+    ensures { result ≡ cond phase r.bytes (r.reading.letters + end_size e) }
 {
     if phase {
         r.bytes
     } else {
-        r.reading.bytes + e.size()
+        r.reading.letters + e.size()
     }
 }
 

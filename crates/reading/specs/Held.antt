@@ -94,7 +94,7 @@ codes b (s ∷ ss) = codes b ss ++ (syllable_number (named s) ∷ [])
 
 pub record Holds (items : List ℕ) (r : Reading) (st : State) : Type 0 where
   pub array : Codes items r.count (codes st.lead st.stack)
-  pub bytes_is : r.bytes ≡ length (prefix st.lead st.stack)
+  pub letters_is : r.letters ≡ length (prefix st.lead st.stack)
   pub tail_is : tail_of r.tail ≡ st.q
   pub fits : Fits r.tail
 
@@ -116,11 +116,11 @@ pub record Blank (items : List ℕ) : Type 0 where
 -- ---- push and pop
 pub record Pushed (old : List ℕ) (r : Reading) (code more : ℕ) (tail : Tail) (new : List ℕ) (n : Reading) : Type 0 where
   pub items : new ≡ set old r.count code
-  pub is : n ≡ record { count = r.count + more; bytes = r.bytes + code; tail = tail }
+  pub is : n ≡ record { count = r.count + more; letters = r.letters + code; tail = tail }
 
 pub record Popped (old : List ℕ) (r : Reading) (code : ℕ) (tail : Tail) (new : List ℕ) (n : Reading) : Type 0 where
   pub items : new ≡ set old (r.count - 1) 0
-  pub is : n ≡ record { count = r.count - 1; bytes = r.bytes - code; tail = tail }
+  pub is : n ≡ record { count = r.count - 1; letters = r.letters - code; tail = tail }
 
 -- a T with nothing before it but the syllables
 abbrev pub cancelled : Clifford → State → State
@@ -136,7 +136,7 @@ codes_length false [] = refl
 codes_length true (s ∷ ss) = omega (arith, length-append (codes true ss) (syllable_number (named s) ∷ []), codes_length true ss)
 codes_length false (s ∷ ss) = omega (arith, length-append (codes false ss) (syllable_number (named s) ∷ []), codes_length false ss)
 
--- a syllable's bytes are as many as its number
+-- a syllable's letters are as many as its number
 pub longer : (b : Bool) (s : normal.Syllable) (ss : List normal.Syllable)
     → length (prefix b (s ∷ ss)) ≡ length (prefix b ss) + syllable_number (named s)
 longer b s ss = omega (arith, prefix_length b s ss, ap length (named_word s), syllable_size (named s))
@@ -149,11 +149,11 @@ prefix_few b (s ∷ ss) = omega (arith, longer b s ss, syllable_few (named s), p
 pub count_is : {items : List ℕ} {r : Reading} {st : State} → Holds items r st → r.count ≡ size_of st
 count_is {st = st} h = h.array.count ∙ codes_length st.lead st.stack
 
-pub bytes_few : {items : List ℕ} {r : Reading} {st : State} → Holds items r st → r.bytes ≤ 3 * r.count
-bytes_few {st = st} h = omega (arith, h.bytes_is, prefix_few st.lead st.stack, count_is h)
+pub letters_few : {items : List ℕ} {r : Reading} {st : State} → Holds items r st → r.letters ≤ 3 * r.count
+letters_few {st = st} h = omega (arith, h.letters_is, prefix_few st.lead st.stack, count_is h)
 
-pub bytes_most : {items : List ℕ} {r : Reading} {st : State} → Holds items r st → r.count ≤ 4096 → r.bytes ≤ 12288
-bytes_most h l = omega (arith, bytes_few h)
+pub letters_most : {items : List ℕ} {r : Reading} {st : State} → Holds items r st → r.count ≤ 4096 → r.letters ≤ 12288
+letters_most h l = omega (arith, letters_few h)
 
 -- ---- adding a syllable, or none
 module _ {old : List ℕ} {r : Reading} {tail : Tail} {new : List ℕ} {n : Reading} (l : r.count < length old) (k : Fits tail) where
@@ -162,8 +162,8 @@ module _ {old : List ℕ} {r : Reading} {tail : Tail} {new : List ℕ} {n : Read
       → Pushed old r 0 0 tail new n
       → Holds new n (state st.lead st.stack (tail_of tail))
   kept_holds h p =
-      rw (p.items, p.is, add-zero r.count, add-zero r.bytes)
-      (record { array = codes_keep h.array l; bytes_is = h.bytes_is; tail_is = refl; fits = k })
+      rw (p.items, p.is, add-zero r.count, add-zero r.letters)
+      (record { array = codes_keep h.array l; letters_is = h.letters_is; tail_is = refl; fits = k })
 
   push_holds : {st : State} (s : normal.Syllable)
       → Holds old r st
@@ -173,7 +173,7 @@ module _ {old : List ℕ} {r : Reading} {tail : Tail} {new : List ℕ} {n : Read
       rw (p.items, p.is)
       (record {
         array = codes_push (syllable_number (named s)) h.array l;
-        bytes_is = omega (arith, h.bytes_is, longer st.lead s st.stack);
+        letters_is = omega (arith, h.letters_is, longer st.lead s st.stack);
         tail_is = refl;
         fits = k;
       })
@@ -184,7 +184,7 @@ module _ {old : List ℕ} {r : Reading} {tail : Tail} {new : List ℕ} {n : Read
       → Holds new n (state true [] (tail_of tail))
   first_holds h p =
       rw (p.items, p.is)
-      (record { array = codes_push 1 h.array l; bytes_is = omega (arith, h.bytes_is); tail_is = refl; fits = k })
+      (record { array = codes_push 1 h.array l; letters_is = omega (arith, h.letters_is); tail_is = refl; fits = k })
 
 -- ---- removing one
 module _ {old : List ℕ} {r : Reading} {q : Clifford} {tail : Tail} {new : List ℕ} {n : Reading} (k : Fits tail) where
@@ -196,7 +196,7 @@ module _ {old : List ℕ} {r : Reading} {q : Clifford} {tail : Tail} {new : List
       rw (p.items, p.is)
       (record {
         array = codes_pop (codes b ss) (syllable_number (named s)) h.array;
-        bytes_is = omega (arith, h.bytes_is, longer b s ss);
+        letters_is = omega (arith, h.letters_is, longer b s ss);
         tail_is = refl;
         fits = k;
       })
@@ -204,7 +204,7 @@ module _ {old : List ℕ} {r : Reading} {q : Clifford} {tail : Tail} {new : List
   unfirst_holds : Holds old r (state true [] q) → Popped old r 1 tail new n → Holds new n (state false [] (tail_of tail))
   unfirst_holds h p =
       rw (p.items, p.is)
-      (record { array = codes_pop [] 1 h.array; bytes_is = omega (arith, h.bytes_is); tail_is = refl; fits = k })
+      (record { array = codes_pop [] 1 h.array; letters_is = omega (arith, h.letters_is); tail_is = refl; fits = k })
 
 -- ---- the last syllable's number: none, the T in front, or another
 abbrev last_of : Bool → List normal.Syllable → ℕ
@@ -229,12 +229,12 @@ module _ {old : List ℕ} {r : Reading} (f : r.count ≡ 0 → ⊥) where
   last_is true (s ∷ ss) q h = codes_last (codes true ss) (syllable_number (named s)) h.array
   last_is false (s ∷ ss) q h = codes_last (codes false ss) (syllable_number (named s)) h.array
 
-  pub pop_room : Readable old r → (last_at old r ≤ r.bytes) × (last_at old r < 4)
+  pub pop_room : Readable old r → (last_at old r ≤ r.letters) × (last_at old r < 4)
   pop_room h =
       let st = h.st in
       let p = last_room st.lead st.stack in
       let e = last_is st.lead st.stack st.q h.holds in
-      (omega (arith, e, p.0, h.holds.bytes_is), omega (arith, e, p.1))
+      (omega (arith, e, p.0, h.holds.letters_is), omega (arith, e, p.1))
 
 -- ---- a T that meets the last syllable
 pub cancel_none : {old : List ℕ} {r : Reading} {rest : Tail} {new : List ℕ} {n : Reading}
@@ -302,10 +302,10 @@ Placed items r kind = (kind ≡ 0 → ⊥) → Room items r kind
 
 module _ {old : List ℕ} {r : Reading} (rest : Tail) where
   pub keeps : {kind : ℕ} → kind ≡ 0 → Fits rest
-      → Steps (by_kind kind (tail_of rest)) old r old (record { count = r.count; bytes = r.bytes; tail = rest })
+      → Steps (by_kind kind (tail_of rest)) old r old (record { count = r.count; letters = r.letters; tail = rest })
   keeps e k =
       record {
-        step = λ st h. rw e (record { array = h.array; bytes_is = h.bytes_is; tail_is = refl; fits = k });
+        step = λ st h. rw e (record { array = h.array; letters_is = h.letters_is; tail_is = refl; fits = k });
       }
 
   module _ {kind : ℕ} {new : List ℕ} {n : Reading} where
@@ -332,8 +332,8 @@ module _ {items : List ℕ} {r : Reading} {kind : ℕ} (s : Readable items r) (h
   pub count_room : r.count ≤ length items
   count_room = count_within s.holds
 
-  pub bytes_room : r.bytes ≤ 12288
-  bytes_room = bytes_most s.holds h.few
+  pub letters_room : r.letters ≤ 12288
+  letters_room = letters_most s.holds h.few
 
 module _ {items : List ℕ} {r : Reading} {kind : ℕ} (h : Room items r kind) (f : kind ≡ 1 → ⊥) where
   pub place_there : r.count < length items

@@ -43,7 +43,7 @@ pub record Upto (w first items : List ℕ) (r : Text) (i : ℕ) : Type 0 where
 
 -- no letter yet: the text is I
 abbrev none : Text
-none = record { reading = record { count = 0; bytes = 0; tail = record { code = 0; phase = 0 } }; bytes = 1 }
+none = record { reading = record { count = 0; letters = 0; tail = record { code = 0; phase = 0 } }; bytes = 1 }
 
 pub upto_none : (w items : List ℕ) → Blank items → Upto w items items none 0
 upto_none w items b = record { within = omega arith; same = refl; inside = inside_none w; held = whole_holds held refl }
@@ -52,7 +52,7 @@ upto_none w items b = record { within = omega arith; same = refl; inside = insid
     held =
         record {
           array = record { count = refl; front = refl; empty = λ i k. b.empty i };
-          bytes_is = refl;
+          letters_is = refl;
           tail_is = refl;
           fits = record { code_few = omega arith; phase_few = omega arith };
         }

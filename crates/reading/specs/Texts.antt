@@ -11,15 +11,15 @@ use Rattle.reading.specs.declared.Reading.{Reading}
 use Rattle.reading.specs.declared.steps.Step.{Step}
 use Rattle.reading.specs.Readings.{State, read, read_size, size_of, tail_size, text_size, text_size_lem}
 use Rattle.reading.specs.Steps.{Fits, tail_of, Stepped, SizeIs}
-use Rattle.reading.specs.Held.{Holds, Readable, Steps, Room, Placed, count_is, count_within, bytes_few, by_kind, kind_most, pair, pair_is, follows}
+use Rattle.reading.specs.Held.{Holds, Readable, Steps, Room, Placed, count_is, count_within, letters_few, by_kind, kind_most, pair, pair_is, follows}
 
 -- the bytes of syllables and of what is written for the tail behind them
 abbrev pub whole_of : Reading → Text
-whole_of s = record { reading = s; bytes = s.bytes + tail_size (tail_of s.tail) }
+whole_of s = record { reading = s; bytes = s.letters + tail_size (tail_of s.tail) }
 
 pub whole_is : {s : Reading} {n : ℕ} → SizeIs (tail_of s.tail) n
-    → ◌≡◌ {A = Text} (record { reading = s; bytes = s.bytes + n }) (whole_of s)
-whole_is {s} e = ap (λ (n : ℕ). record { reading = s; bytes = s.bytes + n }) e.is
+    → ◌≡◌ {A = Text} (record { reading = s; bytes = s.letters + n }) (whole_of s)
+whole_is {s} e = ap (λ (n : ℕ). record { reading = s; bytes = s.letters + n }) e.is
 
 pub record HoldsText (items : List ℕ) (r : Text) (st : State) : Type 0 where
   pub holds : Holds items r.reading st
@@ -28,8 +28,8 @@ pub record HoldsText (items : List ℕ) (r : Text) (st : State) : Type 0 where
 pub whole_holds : {items : List ℕ} {s : Reading} {r : Text} {st : State} → Holds items s st → r ≡ whole_of s → HoldsText items r st
 whole_holds {items} {s} {r} {st} h e = rw e (record { holds = h; bytes_is = bytes })
   where
-    bytes : s.bytes + tail_size (tail_of s.tail) ≡ text_size st
-    bytes = ap₂ (λ (n : ℕ) (q : Clifford). n + tail_size q) h.bytes_is h.tail_is ∙ sym (text_size_lem st)
+    bytes : s.letters + tail_size (tail_of s.tail) ≡ text_size st
+    bytes = ap₂ (λ (n : ℕ) (q : Clifford). n + tail_size q) h.letters_is h.tail_is ∙ sym (text_size_lem st)
 
 -- some text is held
 pub record ReadableText (items : List ℕ) (r : Text) : Type 0 where
@@ -50,13 +50,13 @@ whole_steps p e = record { step = λ st h. whole_holds (p.step st h.holds) e }
 -- ---- a reading that was changed is within the bounds of the program's numbers
 pub record Few (s : Reading) : Type 0 where
   pub fits : Fits s.tail
-  pub few : s.bytes ≤ 65536
+  pub few : s.letters ≤ 65536
 
 pub moved_few : {f : State → State} {old : List ℕ} {r : Reading} {new : List ℕ} {s : Reading} → length new ≡ length old
     → length old ≡ 4096 → Readable old r → Steps f old r new s → Few s
 moved_few e l h p =
     let k = p.step h.st h.holds in
-    record { fits = k.fits; few = omega (arith, bytes_few k, count_within k) }
+    record { fits = k.fits; few = omega (arith, letters_few k, count_within k) }
 
 -- ---- two letters, where each has its place
 module _ {l m : Letter} {old : List ℕ} {r : Reading} {s : Step} (w : Stepped l m r.tail s) where
@@ -66,7 +66,7 @@ module _ {l m : Letter} {old : List ℕ} {r : Reading} {s : Step} (w : Stepped l
   pub pair_few : {new : List ℕ} {t : Reading} → Steps (by_kind s.kind (tail_of s.tail)) old r new t → r.count < 4096 → Readable old r → Few t
   pair_few p k h =
       let now = (follows w p).step h.st h.holds in
-      record { fits = now.fits; few = omega (arith, bytes_few now, count_is now, count_is h.holds, read_size l h.st, read_size m (read l h.st)) }
+      record { fits = now.fits; few = omega (arith, letters_few now, count_is now, count_is h.holds, read_size l h.st, read_size m (read l h.st)) }
 
 pub pair_text : {l m : Letter} {old : List ℕ} {r : Text} {s : Step} {new : List ℕ} {t : Reading} {n : Text} → Stepped l m r.reading.tail s
     → Steps (by_kind s.kind (tail_of s.tail)) old r.reading new t → n ≡ whole_of t → StepsText (pair l m) old r new n

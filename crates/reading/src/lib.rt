@@ -35,7 +35,7 @@ pub enum Syllable {
 #[derive(Clone, Copy)]
 pub struct Reading {
     pub count: usize,
-    pub bytes: usize,
+    pub letters: usize,
     pub tail: Tail,
 }
 
@@ -76,35 +76,35 @@ impl Reading {
     {
         Text {
             reading: self,
-            bytes: self.bytes + self.tail.size(table),
+            bytes: self.letters + self.tail.size(table),
         }
     }
 }
 
 // One syllable more or, with EMPTY, none; the place behind the last is written either way.
 fn push(items: &mut [u8], r: Reading, code: u8, more: usize, tail: Tail) -> Reading
-    requires { (r.count < length items.old) × (r.count < 4096) × (r.bytes ≤ 12288) × (more ≤ 1) }
+    requires { (r.count < length items.old) × (r.count < 4096) × (r.letters ≤ 12288) × (more ≤ 1) }
     ensures { Pushed items.old r code more tail items.new result }
 {
     let count = r.count;
     items[count] = code;
     Reading {
         count: count + more,
-        bytes: r.bytes + code as usize,
+        letters: r.letters + code as usize,
         tail,
     }
 }
 
 // The place is empty again.
 fn pop(items: &mut [u8], r: Reading, code: u8, tail: Tail) -> Reading
-    requires { (0 < r.count) × (r.count ≤ length items.old) × (code ≤ r.bytes) }
+    requires { (0 < r.count) × (r.count ≤ length items.old) × (code ≤ r.letters) }
     ensures { Popped items.old r code tail items.new result }
 {
     let count = r.count - 1;
     items[count] = EMPTY;
     Reading {
         count: count,
-        bytes: r.bytes - code as usize,
+        letters: r.letters - code as usize,
         tail,
     }
 }
@@ -164,7 +164,7 @@ fn change(table: Table, items: &mut [u8], r: Reading, kind: u8, rest: Tail) -> R
     if kind == 0 {
         return Reading {
             count: r.count,
-            bytes: r.bytes,
+            letters: r.letters,
             tail: rest,
         };
     }
@@ -214,7 +214,7 @@ pub fn read_word(table: Table, items: &mut [u8], word: &[u8]) -> Result<Text, Re
     let mut r = Text {
         reading: Reading {
             count: 0,
-            bytes: 0,
+            letters: 0,
             tail: Tail { code: 0, phase: 0 },
         },
         bytes: 1,

@@ -18,7 +18,7 @@ use Rattle.reading.specs.Readings.{State, state, start, run, run_ranged, start_r
 use Rattle.reading.specs.Syllables.{syllable_number, named}
 use Rattle.reading.specs.Steps.{tail_of, Fits}
 use Rattle.reading.specs.Held as Held
-use Rattle.reading.specs.Held.{Holds, longer, count_is, bytes_few}
+use Rattle.reading.specs.Held.{Holds, longer, count_is, letters_few}
 use Rattle.reading.specs.Texts.{whole_of, Few, HoldsText, whole_holds}
 use Rattle.slot.specs.Meaning.{Slot, slot_of, code, codes_of, led, codes, Shows, Given}
 use Rattle.slot.proofs.Shown.{Coded, rest_of, state_size, state_shown, few_shown, shown_coded, shown_rest}
@@ -265,7 +265,7 @@ module _ {items rest : List ℕ} where
                   front = syllables.is;
                   empty = λ i l. none_at i l (ltb i (length items)) refl;
                 };
-            bytes_is = letters_are;
+            letters_is = letters_are;
             tail_is = tail_in_lem rest ranges;
             fits = tail_fits ranges;
           }
@@ -275,7 +275,7 @@ module _ {items rest : List ℕ} where
           none_at i l false g = get_or-eq_default items 0 (ltb-false i (length items) g)
 
       pub stack_few : Few (stack_in rest letters)
-      stack_few = record { fits = tail_fits ranges; few = omega (arith, bytes_few stacks_there, ranges.count_few) }
+      stack_few = record { fits = tail_fits ranges; few = omega (arith, letters_few stacks_there, ranges.count_few) }
 
       module _ {x : Text} (whole : x ≡ whole_of (stack_in rest letters)) where
         holds_there : HoldsText items x standing_state

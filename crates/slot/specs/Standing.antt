@@ -31,4 +31,4 @@ abbrev pub tail_in : List ℕ → Tail
 tail_in rest = record { code = get_or rest 2 0 * 8 + get_or rest 3 0 * 4 + get_or rest 4 0; phase = get_or rest 5 0 }
 
 abbrev pub stack_in : List ℕ → ℕ → Reading
-stack_in rest letters = record { count = get_or rest 0 0; bytes = letters; tail = tail_in rest }
+stack_in rest letters = record { count = get_or rest 0 0; letters = letters; tail = tail_in rest }

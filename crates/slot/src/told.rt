@@ -66,7 +66,7 @@ fn reading_in(table: Table, letters: usize, rest: &[u64; 6]) -> Text
     let code = a * 8 + b * 4 + c;
     let reading = Reading {
         count: count as usize,
-        bytes: letters,
+        letters,
         tail: Tail {
             code: code as usize,
             phase: d as usize,

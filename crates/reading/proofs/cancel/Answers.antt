@@ -1,12 +1,12 @@
 -- `reading::cancel` meets its contract. Assumes nothing.
 use native.Mathlib.Omega.{arith}
 use borrow.Author.Rules.{rules}
-use Rattle.reading.specs.Held.{bytes_most, cancel_none, cancel_some, pop_room}
+use Rattle.reading.specs.Held.{letters_most, cancel_none, cancel_some, pop_room}
 use Rattle.reading.proofs.cancel.Goals as goal
 
 pub push-requires : goal.push-requires
 push-requires c =
-    (search rules, search rules, bytes_most c.requires.readable.holds (omega arith), omega arith)
+    (search rules, search rules, letters_most c.requires.readable.holds (omega arith), omega arith)
 
 pub returns-then-count-eq0 : goal.returns-then-count-eq0
 returns-then-count-eq0 c = search cancel_none

@@ -1,5 +1,5 @@
 -- `reading::put` meets its contract. Assumes nothing.
-use Rattle.reading.specs.Held.{cancels, puts, count_room, bytes_room, place_there, place_few, one_most}
+use Rattle.reading.specs.Held.{cancels, puts, count_room, letters_room, place_there, place_few, one_most}
 use Rattle.reading.proofs.put.Goals as goal
 
 pub cancel-requires : goal.cancel-requires
@@ -9,7 +9,7 @@ pub returns-then-kind-eq1 : goal.returns-then-kind-eq1
 returns-then-kind-eq1 c = search cancels
 
 pub push-requires : goal.push-requires
-push-requires c = search (bytes_room, place_there, place_few, one_most)
+push-requires c = search (letters_room, place_there, place_few, one_most)
 
 pub returns : goal.returns
 returns c = search puts
